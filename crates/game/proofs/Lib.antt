@@ -1,0 +1,14 @@
+pub mod Parities
+pub mod Sides
+pub mod Moves
+pub mod Rounds
+pub mod Ends
+pub mod Checks
+pub mod Walks
+pub mod Keeps
+pub mod Plays
+pub mod Verdicts
+pub mod Same
+pub mod Counting
+pub mod Alike
+pub mod Shifts

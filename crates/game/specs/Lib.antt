@@ -1,0 +1,13 @@
+pub mod Parity
+pub mod Sides
+pub mod Graph
+pub mod Rule
+pub mod Walks
+pub mod Rounds
+pub mod Table
+pub mod Check
+pub mod Calls
+pub mod Runs
+pub mod Shift
+pub mod Refusals
+pub mod Laws

@@ -1,0 +1,38 @@
+-- What each refusal is known by: its number, and the values that it names.
+use mathlib.Core.List.{List, [], _∷_}
+use Prim.Native.Nat.{ℕ}
+use Rattle.std.specs.declared.result.Result.{Result}
+use Rattle.std.specs.declared.result.Result.the-variants.{Ok, Err}
+use Rattle.game.specs.declared.Refusal.{Refusal}
+use Rattle.game.specs.declared.Refusal.the-variants.{Limits, Full, Short, Disobeys, Space, Start, Ended, WrongSide, NoWay, Misfit}
+use Rattle.game.specs.Calls.{Reply, stands, refused}
+
+abbrev pub refusal-number : Refusal → ℕ
+refusal-number Limits = 14
+refusal-number Full = 15
+refusal-number Short = 21
+refusal-number (Disobeys position) = 22
+refusal-number Space = 23
+refusal-number Start = 31
+refusal-number Ended = 32
+refusal-number WrongSide = 33
+refusal-number NoWay = 34
+refusal-number Misfit = 35
+
+-- 22 names a position; no other refusal of a call names a value
+abbrev pub refusal-values : Refusal → List ℕ
+refusal-values Limits = []
+refusal-values Full = []
+refusal-values Short = []
+refusal-values (Disobeys position) = position ∷ []
+refusal-values Space = []
+refusal-values Start = []
+refusal-values Ended = []
+refusal-values WrongSide = []
+refusal-values NoWay = []
+refusal-values Misfit = []
+
+-- the reply that an answer of a shift's call stands for: a place, or a refusal by its number
+abbrev pub reply-of : Result ℕ Refusal → Reply
+reply-of (Ok v) = stands v
+reply-of (Err e) = refused (refusal-number e)

@@ -1,0 +1,4 @@
+pub mod Moves
+pub mod Rows
+pub mod Counts
+pub mod Plans
