@@ -1,5 +1,6 @@
 pub mod Parities
 pub mod Sides
+pub mod Sizes
 pub mod Moves
 pub mod Rounds
 pub mod Ends

@@ -60,12 +60,19 @@ impl Refusal {
     }
 }
 
+// Whether halving a number leaves a remainder.
+fn leaves_remainder(n: u8) -> bool
+    ensures { λ r. ⌜ r ≡ is-odd n ⌝ }
+{
+    n % 2 != 0
+}
+
 // Whether a mark is odd: the one place in the build that tells.
 pub fn is_odd(mark: u8) -> bool
     ensures test { λ r. ⌜ r ≡ is-odd mark ⌝ }
     ensures means { λ r. ⌜ Tells-odd mark r ⌝ }
 {
-    mark % 2 != 0
+    leaves_remainder(mark)
 }
 
 // A map (a game graph), by its questions. Each is answered from the graph alone, at any number, and alters nothing.

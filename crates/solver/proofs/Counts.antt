@@ -10,9 +10,8 @@ use Rattle.std.specs.declared.option.Option.{Option}
 use Rattle.std.specs.declared.option.Option.the-variants.{Some, None}
 use Rattle.game.specs.Graph.{Graph, Fit}
 use Rattle.game.specs.Rule.{Rule, Lawful}
-use Rattle.game.specs.Rounds.{given, rounds, fresh, or-else}
+use Rattle.game.specs.Rounds.{given, rounds, fresh, or-else, Quiet}
 use Rattle.game.specs.Table.{entry}
-use Rattle.game.specs.Rounds.{Quiet}
 use Rattle.game.proofs.Moves.{moves-inside}
 use Rattle.game.proofs.Rounds.{kept, new, none-one, small}
 use Rattle.game.proofs.Ends.{quiet-rounds}

@@ -60,14 +60,15 @@ pub rows-none : (s : ℕ) (P : ℕ → ℕ → ℕ → Type 0) (xs : List ℕ) �
 rows-none s P xs = record { tail = tail-none (0 * s) xs; inside = λ v c lv lc. absurd (omega arith) }
 
 -- v rows are filled, and the next one is written
-pub rows-more : (v s : ℕ) (P : ℕ → ℕ → ℕ → Type 0) (before now ys : List ℕ) → Rows v s P before now → v * s + s ≤ length now → length ys ≡ (v * s + s) - v * s → ((c : ℕ) → c < s → P v c (getD ys c 0)) → Rows (v + 1) s P before (putMid (v * s) ((v * s + s) - v * s) now ys)
-rows-more v s P before now ys f fits same told =
+pub rows-more : (v s : ℕ) (P : ℕ → ℕ → ℕ → Type 0) (before now ys : List ℕ) → Rows v s P before now → v * s + s ≤ length now → length ys ≡ length (midOf (v * s) ((v * s + s) - v * s) now) → ((c : ℕ) → c < s → P v c (getD ys c 0)) → Rows (v + 1) s P before (putMid (v * s) ((v * s + s) - v * s) now ys)
+rows-more v s P before now ys f fits kept told =
     let a : ℕ = v * s in
+    let same : length ys ≡ a + s - a = kept ∙ mid-len a (a + s) now fits in
     let fwd : a ≤ a + s = omega arith in
     let next : (v + 1) * s ≡ a + s = next-row v s in
     record {
       tail = record {
-        long = same-len-mid a (a + s - a) now ys (same ∙ sym (mid-len a (a + s) now fits)) ∙ f .tail .long;
+        long = same-len-mid a (a + s - a) now ys kept ∙ f .tail .long;
         beyond = λ k h. put-above a (a + s) now ys fwd fits same k (omega arith) ∙ f .tail .beyond k (omega arith);
       };
       inside = λ w c lw lc.

@@ -1,8 +1,8 @@
 use mathlib.Core.Path.{_≡_, ap, _∙_}
 use Prim.Native.Nat.{ℕ, _*_, _-_}
-use native.Mathlib.Nat.{mul-le-mul}
 use native.Mathlib.Omega.{arith}
 use Rattle.game.specs.Rounds.{given}
+use Rattle.game.proofs.Sizes.{most-positions}
 use Rattle.solver.proofs.Rows.{start-at, start-long, start-tail, tail-none, tail-join}
 use Rattle.solver.proofs.Counts.{counts-none, rounds-end}
 use Rattle.solver.proofs.counting.count_all.Given as given′
@@ -22,7 +22,7 @@ pub count-round-requires : need.count-round-requires
 count-round-requires g c κs =
     let G = g .M·Map .graph (c .args .map .now) in
     let D = g .D·Duty .rule (c .args .duty .now) in
-    let most = mul-le-mul (g .M·Map .fit (c .args .map .now) .most) (g .D·Duty .lawful (c .args .duty .now) .most) in
+    let most = most-positions G D (g .M·Map .fit (c .args .map .now)) (g .D·Duty .lawful (c .args .duty .now)) in
     let e : c .size .result * c .codes .result ≡ G .size * D .codes = λ j. c .size .ensures j * c .codes .ensures j in
     let t = start-tail (c .size .result * c .codes .result) (G .size * D .codes) (c .clear .last .part) (c .args .count .now) e (c .pre .counts) (c .clear .kept .part) in
     record { few = omega (arith, most, e); plans = omega (arith, c .pre .plans, c .loop-done .kept .plan); counts = omega (arith, c .pre .counts, c .loop-done .kept .count, t .long); stand = c .loop-done .inv .0 }

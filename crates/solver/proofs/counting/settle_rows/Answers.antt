@@ -27,7 +27,7 @@ loop-v-again c =
     let a = v * s in
     let w = fits (need.at·loop-v-again c .In-loop-v) in
     let l = mid-len a (a + s) (c .loop-v .count) w in (
-      rows-more v s _ (c .args .count .now) (c .loop-v .count) (c .settle-row .last .row) (c .loop-v .inv .0) w (c .settle-row .kept .row ∙ l)
+      rows-more v s _ (c .args .count .now) (c .loop-v .count) (c .settle-row .last .row) (c .loop-v .inv .0) w (c .settle-row .kept .row)
           (λ k h.
           let within : k < a + s - a = omega arith in
           c .settle-row .ensures .each k (omega arith)

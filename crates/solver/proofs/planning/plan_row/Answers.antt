@@ -5,8 +5,7 @@ use native.Mathlib.Omega.{arith}
 use borrow.Author.Count.{below-more}
 use lib.ListN.{length, getD, set}
 use lib.Seq.{getD-set-same, getD-set-other}
-use Rattle.game.specs.Table.{Planned}
-use Rattle.game.specs.Table.{table}
+use Rattle.game.specs.Table.{table, Planned}
 use Rattle.solver.proofs.planning.plan_row.Needs as need
 
 pub loop-c-again : need.loop-c-again

@@ -1,8 +1,7 @@
 use mathlib.Core.List.{[]}
 use Prim.Native.Nat.{ℕ, _<_}
 use lib.ListN.{getD}
-use Rattle.game.specs.Table.{Planned}
-use Rattle.game.specs.Table.{table}
+use Rattle.game.specs.Table.{table, Planned}
 use Rattle.solver.proofs.planning.plan_row.Given as given
 
 abbrev pub Inv-loop-c : given.InvT-loop-c

@@ -1,0 +1,10 @@
+pub mod Text
+pub mod Number
+pub mod Job
+pub mod Kind
+pub mod Faults
+pub mod Cutting
+pub mod Reading
+pub mod Shown
+pub mod Spelling
+pub mod Laws

@@ -1,0 +1,3 @@
+pub mod Fields
+pub mod Listing
+pub mod Putting

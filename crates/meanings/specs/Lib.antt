@@ -1,0 +1,4 @@
+pub mod Queue
+pub mod Open
+pub mod Window
+pub mod WindowCode
