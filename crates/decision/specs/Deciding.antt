@@ -3,15 +3,16 @@ use mathlib.Core.Path.{_≡_}
 use mathlib.Core.List.{List, _++_}
 use Prim.Native.Nat.{ℕ, _<_, _≤_}
 use lib.ListN.{length, drop}
-use Rattle.game.specs.declared.Refusal.{Refusal}
 use Rattle.game.specs.declared.Refusal.the-variants.{Space}
 use Rattle.game.specs.Refusals.{refusal-number}
 use Rattle.game.specs.Table.{Table, Solved, Verdict}
 use Rattle.job.specs.Faults.{report}
 use Rattle.job.specs.Job.{Job}
 use Rattle.job.specs.Reading.{outcome, job, fault}
+use Rattle.job.specs.Spelling.{Spells}
+use Rattle.job.specs.Laws.{Blames}
 use Rattle.listing.specs.Listing.{listing, least-space}
-use Rattle.decision.specs.Meaning.{graph-of, rule-of}
+use Rattle.job.specs.Meaning.{graph-of, rule-of}
 use Rattle.decision.specs.declared.Declined.{Declined}
 use Rattle.decision.specs.declared.Declined.the-variants.{Text, Call}
 
@@ -30,9 +31,10 @@ field-of (Call e) = 0
 
 -- the space held `before` and now holds `after`
 module _ (text before after : List ℕ) where
-  -- the text is read as a job, and the space begins with the listing of that job's solved table
+  -- the text spells a job and is read as it, and the space begins with the listing of that job's solved table
   pub record Decides (long : ℕ) : Type 0 where
     pub asked : Job
+    pub spelled : Spells asked text
     pub read : outcome text ≡ job asked
     pub table : Table
     -- the table is the rounds', so it tells who can keep the duty from each place, over all plans
@@ -42,7 +44,8 @@ module _ (text before after : List ℕ) where
     pub size : long ≡ length (listing (graph-of asked) (rule-of asked) table)
     pub most : long ≤ least-space
 
-  -- the text's fault, or else a space that is too small; and the space is as it was
+  -- the text's fault, in the first line with which no text of a job begins, or else a space that is too small; and the
+  -- space is as it was
   abbrev pub Declines : Declined → Type 0
-  Declines (Text f) = (outcome text ≡ fault f) × (after ≡ before)
+  Declines (Text f) = (outcome text ≡ fault f) × Blames text f × (after ≡ before)
   Declines (Call e) = (e ≡ Space) × ((j : Job) × (outcome text ≡ job j)) × (length before < least-space) × (after ≡ before)

@@ -5,6 +5,10 @@ ghost use lib.ListN.{length};
 ghost use Rattle.std.specs.Results.{Cases};
 ghost use Rattle.decision.specs.declared.Declined.the-variants.{Text, Call};
 ghost use Rattle.decision.specs.Deciding.{Decides, Declines, number-of, line-of, field-of};
+
+#[cfg(test)]
+mod tests;
+
 use duties::WindowDuty;
 use game::Refusal;
 use job::JobFault;
@@ -79,7 +83,9 @@ fn decide_in(
 ) -> Result<usize, Declined>
     requires plans { ⌜ 31872 ≤ length (now plan) ⌝ }
     requires counts { ⌜ 31872 ≤ length (now count) ⌝ }
-    ensures { λ r. ⌜ Cases r (Decides (now (text .entry)) (now (space .entry)) (now (space .exit))) (Declines (now (text .entry)) (now (space .entry)) (now (space .exit))) ⌝ }
+    ensures { λ r. ⌜ Cases r
+        (Decides (now (text .entry)) (now (space .entry)) (now (space .exit)))
+        (Declines (now (text .entry)) (now (space .entry)) (now (space .exit))) ⌝ }
 {
     let job = job::read(text)?;
     solve(&job.map, &job.duty, plan, count)?;
@@ -90,7 +96,9 @@ fn decide_in(
 // Writes the listing of the text's job at the start of the space and answers its length; or declines, and the space is
 // as it was. A text's fault comes before a space that is too small.
 pub fn decide(text: &[u8], space: &mut [u8]) -> Result<usize, Declined>
-    ensures { λ r. ⌜ Cases r (Decides (now (text .entry)) (now (space .entry)) (now (space .exit))) (Declines (now (text .entry)) (now (space .entry)) (now (space .exit))) ⌝ }
+    ensures { λ r. ⌜ Cases r
+        (Decides (now (text .entry)) (now (space .entry)) (now (space .exit)))
+        (Declines (now (text .entry)) (now (space .entry)) (now (space .exit))) ⌝ }
 {
     let mut plan = [0u8; MOST_POSITIONS];
     let mut count = [0u16; MOST_POSITIONS];

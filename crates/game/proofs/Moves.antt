@@ -8,7 +8,7 @@ use native.Mathlib.Nat.{le-of-suc-le-suc}
 use native.Mathlib.Omega.{arith}
 use lib.Dec.{eqb}
 use lib.ListN.{length, getD}
-use Rattle.std.proofs.shelf.Tests.{eqb-true, eqb-false, not-true, not-false, and-parts, and-cases, or-cases, or-parts, both-ways}
+use Rattle.std.proofs.shelf.Tests.{eqb-true, eqb-false, not-true, not-false, and-parts, and-cases, and-from, and-left, and-right, or-cases, or-parts, or-from, or-left, or-right, both-ways}
 use Rattle.game.specs.Graph.{Graph, Fit, moves, or-stay}
 use Rattle.game.specs.Rounds.{any, all, counted}
 
@@ -37,6 +37,33 @@ pub any-false : (f : ℕ → Bool) (xs : List ℕ) → any f xs ≡ false → (k
 any-false f [] e k h = absurd (omega arith)
 any-false f (x ∷ xs) e zero h = or-parts (f x) (any f xs) e .0
 any-false f (x ∷ xs) e (suc k) h = any-false f xs (or-parts (f x) (any f xs) e .1) k (le-of-suc-le-suc h)
+
+-- .. and back
+pub any-up : (f : ℕ → Bool) (xs : List ℕ) (k : ℕ) → k < length xs → f (getD xs k 0) ≡ true → any f xs ≡ true
+any-up f [] k l e = absurd (omega arith)
+any-up f (x ∷ xs) zero l e = or-left (f x) (any f xs) e
+any-up f (x ∷ xs) (suc k) l e = or-right (f x) (any f xs) (any-up f xs k (le-of-suc-le-suc l) e)
+
+pub any-down : (f : ℕ → Bool) (xs : List ℕ) → ((k : ℕ) → k < length xs → f (getD xs k 0) ≡ false) → any f xs ≡ false
+any-down f [] each = refl
+any-down f (x ∷ xs) each = or-from (f x) (any f xs) (each 0 (omega arith)) (any-down f xs (λ k l. each (suc k) (omega arith)))
+
+pub all-up : (f : ℕ → Bool) (xs : List ℕ) → ((k : ℕ) → k < length xs → f (getD xs k 0) ≡ true) → all f xs ≡ true
+all-up f [] each = refl
+all-up f (x ∷ xs) each = and-from (f x) (all f xs) (each 0 (omega arith)) (all-up f xs (λ k l. each (suc k) (omega arith)))
+
+pub all-down : (f : ℕ → Bool) (xs : List ℕ) (k : ℕ) → k < length xs → f (getD xs k 0) ≡ false → all f xs ≡ false
+all-down f [] k l e = absurd (omega arith)
+all-down f (x ∷ xs) zero l e = and-left (f x) (all f xs) e
+all-down f (x ∷ xs) (suc k) l e = and-right (f x) (all f xs) (all-down f xs k (le-of-suc-le-suc l) e)
+
+pub all-same : (f h : ℕ → Bool) (xs : List ℕ) → ((k : ℕ) → k < length xs → f (getD xs k 0) ≡ h (getD xs k 0)) → all f xs ≡ all h xs
+all-same f h [] each = refl
+all-same f h (x ∷ xs) each = let a = each 0 (omega arith) in let b = all-same f h xs (λ k l. each (suc k) (omega arith)) in cc
+
+pub any-same : (f h : ℕ → Bool) (xs : List ℕ) → ((k : ℕ) → k < length xs → f (getD xs k 0) ≡ h (getD xs k 0)) → any f xs ≡ any h xs
+any-same f h [] each = refl
+any-same f h (x ∷ xs) each = let a = each 0 (omega arith) in let b = any-same f h xs (λ k l. each (suc k) (omega arith)) in cc
 
 pub counted-true : (n : ℕ) → counted n ≡ true → 0 < n
 counted-true n e = omega (arith, eqb-false n 0 (not-true (eqb n 0) e))

@@ -28,6 +28,7 @@ cond-zero false n e = refl
 cond-suc : (b : Bool) (n k : ℕ) → cond b (suc n) 0 ≡ suc k → (b ≡ true) × (n ≡ k)
 cond-suc true n k e = (refl, omega arith)
 cond-suc false n k e = absurd (omega arith)
+
 module _ (g : Graph) (d : Rule) where
   -- what round r + 1 asks of the moves from place v, at the code that its step answered
   abbrev pub test : ℕ → ℕ → ℕ → Bool

@@ -166,25 +166,28 @@ module _ (g : Graph) (d : Rule) (t : Table) (begin : ℕ) where
               ∙ ap (goes-to g d s n x) step in
               let count : count-at g d t (last grown) (code-before g d grown) ≡ move-count g d t (last w) e k =
               ap (λ (v : ℕ). count-at g d t v (code-before g d grown)) end ∙ ap (count-at g d t x) code in
-              subst (Goes x grown) (sym is) (refl, record {
-                walk = walk-grows g w k (held .walk) l;
-                from = push-old w x 0 (held .walk .some) ∙ held .from;
-                place = sym end;
-                code = sym code;
-                ended = ap (λ (v : ℕ). says-broken (d .step e (g .mark v))) (sym end) ∙ ap (λ (c : ℕ). says-broken (d .step c (g .mark (last grown)))) (sym code);
-                size = held .size;
-                codes = held .codes;
-                start = held .start;
-                first-code = held .first-code;
-                side = held .side;
-                unbroken = subst (λ (u : List ℕ). d .Breaks (map (g .mark) u) → ⊥) (sym front) un;
-                settled = subst (λ (c : ℕ). c < d .codes) (sym code) (lawful .settled _ _ e step .2);
-                safe = λ z. count ∙ safe-move g d t _ _ e k obeys (held .safe z) step l (λ house. by-plan (house ∙ sym (eq-eqb _ 0 z)));
-                hunted = λ some.
-                    let before = held .hunted some in
-                    let after = lost-move g d t _ _ e k obeys (before .0) step l (λ guest. by-plan (guest ∙ sym (ne-eqb (place-count g d t begin) 0 (omega arith)))) in
-                    (omega arith, omega arith);
-              })
+              subst (Goes x grown) (sym is) (
+                refl,
+                record {
+                  walk = walk-grows g w k (held .walk) l;
+                  from = push-old w x 0 (held .walk .some) ∙ held .from;
+                  place = sym end;
+                  code = sym code;
+                  ended = ap (λ (v : ℕ). says-broken (d .step e (g .mark v))) (sym end) ∙ ap (λ (c : ℕ). says-broken (d .step c (g .mark (last grown)))) (sym code);
+                  size = held .size;
+                  codes = held .codes;
+                  start = held .start;
+                  first-code = held .first-code;
+                  side = held .side;
+                  unbroken = subst (λ (u : List ℕ). d .Breaks (map (g .mark) u) → ⊥) (sym front) un;
+                  settled = subst (λ (c : ℕ). c < d .codes) (sym code) (lawful .settled _ _ e step .2);
+                  safe = λ z. count ∙ safe-move g d t _ _ e k obeys (held .safe z) step l (λ house. by-plan (house ∙ sym (eq-eqb _ 0 z)));
+                  hunted = λ some.
+                      let before = held .hunted some in
+                      let after = lost-move g d t _ _ e k obeys (before .0) step l (λ guest. by-plan (guest ∙ sym (ne-eqb (place-count g d t begin) 0 (omega arith)))) in
+                      (omega arith, omega arith);
+                },
+              )
 
       -- what one call leaves: a walk that the shift stands on again
       abbrev Left : Call → Reply × State → Type 0

@@ -127,5 +127,7 @@ pub fn laws_hold<M: Map, D: Duty>(map: &M, duty: &D)
 
 // Where two maps and two duties mean the same game, their solved tables are the same.
 pub fn same_tables<M: Map, N: Map, D: Duty, E: Duty>(map: &M, duty: &D, other: &N, beside: &E)
-    ensures { λ _. ⌜ Same-tables (M·Map .graph (now (map .entry))) (D·Duty .rule (now (duty .entry))) (N·Map .graph (now (other .entry))) (E·Duty .rule (now (beside .entry))) ⌝ }
+    ensures { λ _. ⌜ Same-tables
+        (M·Map .graph (now (map .entry))) (D·Duty .rule (now (duty .entry)))
+        (N·Map .graph (now (other .entry))) (E·Duty .rule (now (beside .entry))) ⌝ }
 {}

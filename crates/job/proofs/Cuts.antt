@@ -1,6 +1,6 @@
 -- What the lines that are cut say of the text, and which lines are cut from a text.
 use mathlib.Core.Path.{_≡_, refl, sym, ap, subst, _∙_}
-use mathlib.Core.Bool.{Bool, true, false, cond, not, _&&_}
+use mathlib.Core.Bool.{true, false, cond, not}
 use mathlib.Core.Logic.{⊎-elim}
 use mathlib.Core.List.{List, [], _∷_, _++_, append-nil, append-assoc}
 use Prim.Native.Nat.{ℕ, suc, _+_, _≤_, _<_}
@@ -42,8 +42,8 @@ back so-far (b ∷ bs) c h =
     cond-both (eqb b line-end) (cut so-far (lines-from [] bs)) (cond (ltb (length so-far) line-limit) (lines-from more bs) long) (Back all)
     (λ t. (bs, ap (λ (x : ℕ). so-far ++ (x ∷ bs)) (eqb-true b line-end t), (c, h), refl))
     (λ f. cond-both (ltb (length so-far) line-limit) (lines-from more bs) long (Back all)
-      (λ t. subst (λ (x : List ℕ). Back x (lines-from more bs)) whole (back more bs (calm-push so-far b c f) (omega (arith, ltb-true (length so-far) line-limit t, length-push so-far b))))
-      (λ g. (more, bs, sym whole, calm-push so-far b c f, omega (arith, ltb-false (length so-far) line-limit g, length-push so-far b))))
+    (λ t. subst (λ (x : List ℕ). Back x (lines-from more bs)) whole (back more bs (calm-push so-far b c f) (omega (arith, ltb-true (length so-far) line-limit t, length-push so-far b))))
+    (λ g. (more, bs, sym whole, calm-push so-far b c f, omega (arith, ltb-false (length so-far) line-limit g, length-push so-far b))))
 
 pub lines-back : (text : List ℕ) (ls : Lines) → lines text ≡ ls → Back text ls
 lines-back text ls e = subst (Back text) e (back [] text refl (omega arith))
@@ -88,9 +88,9 @@ long-on so-far (b ∷ bs) tail c h e =
     let ih = λ (l : length so-far < line-limit). long-on (so-far ++ (b ∷ [])) bs tail (p .1) (omega (arith, l, length-push so-far b)) (omega (arith, e, length-push so-far b)) in
     cond-false (eqb b line-end) (cut so-far (lines-from [] whole)) (cond (ltb (length so-far) line-limit) (lines-from (so-far ++ (b ∷ [])) whole) long) f
     ∙ ⊎-elim
-      (λ t. cond-true (ltb (length so-far) line-limit) (lines-from (so-far ++ (b ∷ [])) whole) long t ∙ ih (ltb-true (length so-far) line-limit t))
-      (λ g. cond-false (ltb (length so-far) line-limit) (lines-from (so-far ++ (b ∷ [])) whole) long g)
-      (cases-bool (ltb (length so-far) line-limit))
+    (λ t. cond-true (ltb (length so-far) line-limit) (lines-from (so-far ++ (b ∷ [])) whole) long t ∙ ih (ltb-true (length so-far) line-limit t))
+    (λ g. cond-false (ltb (length so-far) line-limit) (lines-from (so-far ++ (b ∷ [])) whole) long g)
+    (cases-bool (ltb (length so-far) line-limit))
 
 pub lines-long : (head tail : List ℕ) → calm head ≡ true → length head ≡ suc line-limit → lines (head ++ tail) ≡ long
 lines-long head tail c e = long-on [] head tail c (omega arith) (omega arith)

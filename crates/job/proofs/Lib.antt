@@ -4,3 +4,6 @@ pub mod Steps
 pub mod Cuts
 pub mod Texts
 pub mod Numbers
+pub mod Rulings
+pub mod Jobs
+pub mod Blamings

@@ -71,7 +71,9 @@ numeral-neat (a ∷ b ∷ []) n h =
     let l : 48 ≤ a = omega (arith, h .0) in
     (plain-digit a l (b ∷ []) (plain-digit b (h .2) [] refl), calm-digit a l (b ∷ []) (calm-digit b (h .2) [] refl), omega arith)
 numeral-neat (a ∷ b ∷ c ∷ []) n h =
-    let l : 48 ≤ a = omega (arith, h .0) in
-    (plain-digit a l (b ∷ c ∷ []) (plain-digit b (h .2) (c ∷ []) (plain-digit c (h .4) [] refl)),
-     calm-digit a l (b ∷ c ∷ []) (calm-digit b (h .2) (c ∷ []) (calm-digit c (h .4) [] refl)), omega arith)
+    let l : 48 ≤ a = omega (arith, h .0) in (
+      plain-digit a l (b ∷ c ∷ []) (plain-digit b (h .2) (c ∷ []) (plain-digit c (h .4) [] refl)),
+      calm-digit a l (b ∷ c ∷ []) (calm-digit b (h .2) (c ∷ []) (calm-digit c (h .4) [] refl)),
+      omega arith,
+    )
 numeral-neat (a ∷ b ∷ c ∷ d ∷ f) n h = absurd h

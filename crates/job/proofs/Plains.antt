@@ -1,6 +1,6 @@
 -- Lines and fields cut at a byte's place.
 use mathlib.Core.Path.{_≡_, refl, sym, ap, _∙_}
-use mathlib.Core.Bool.{Bool, true, false, cond, not, _&&_}
+use mathlib.Core.Bool.{Bool, true, not, _&&_}
 use mathlib.Core.List.{List, [], _∷_, _++_}
 use Prim.Native.Nat.{ℕ, _+_, _-_, _≤_, _<_}
 use native.Mathlib.Omega.{arith}
@@ -8,8 +8,7 @@ use lib.Dec.{eqb, ltb}
 use lib.ListN.{length, take, drop, getD, take-append-drop, length-take}
 use Rattle.std.proofs.shelf.Tests.{cond-true, cond-false, lt-ltb, le-ltb, ne-eqb, and-parts, and-from, not-true, not-from-false}
 use Rattle.std.proofs.shelf.Lists.{take-more, drop-more, drop-all, take-rest}
-use Rattle.job.specs.Text.{line-end, line-limit, comma, Lines, done, torn, long, cut, left, lines-from, lines, before, fields}
-use Rattle.job.specs.Cutting.{Ended, Cut-off}
+use Rattle.job.specs.Text.{line-end, line-limit, comma, torn, long, cut, left, lines-from, lines, before, fields}
 
 -- no byte is a comma
 abbrev pub plain : List ℕ → Bool

@@ -1,8 +1,9 @@
 -- One line more of a text.
 use mathlib.Core.Path.{_≡_, sym, ap, subst, _∙_}
 use mathlib.Core.List.{List}
-use Prim.Native.Nat.{ℕ, suc, _+_}
+use Prim.Native.Nat.{ℕ, suc, _<_}
 use native.Mathlib.Numerals.{add-one}
+use lib.ListN.{length}
 use Rattle.std.specs.declared.option.Option.{Option}
 use Rattle.std.specs.declared.option.Option.the-variants.{Some}
 use Rattle.job.specs.declared.cutter.Cutter.{Cutter}
@@ -23,8 +24,15 @@ told s n text k rest r h e =
     ∙ ap (λ (o : Option Kind). after (judged n s o) (λ t. reading t (suc n) (lines rest))) (sym (h .2))
     ∙ ap (λ (x : Ruling). after x (λ t. reading t (suc n) (lines rest))) e
 
--- a line that is handed out leads on as it is judged
-pub handed : (s : State) (old new : Cutter) (k : Option Line) (r : Ruling) → Handed old (Some k) new → judged (new .line) s (made shown-line k) ≡ r → onward s old ≡ after r (λ t. onward t new)
-handed s old new k r h e =
-    ap (λ (n : ℕ). reading s n (lines (old .rest .now))) (sym (add-one (old .line)) ∙ sym (h .1))
-    ∙ told s (new .line) (old .rest .now) (made shown-line k) (new .rest .now) r (h .0) e
+module _ (old new : Cutter) (o : Option (Option Line)) (k : Option Line) (is : o ≡ Some k) (h : Handed old o new) where
+  line-handed : Handed old (Some k) new
+  line-handed = subst (λ (x : Option (Option Line)). Handed old x new) is h
+
+  -- a line that is handed out leads on as it is judged
+  pub handed : (s : State) (r : Ruling) → judged (new .line) s (made shown-line k) ≡ r → onward s old ≡ after r (λ t. onward t new)
+  handed s r e =
+      ap (λ (n : ℕ). reading s n (lines (old .rest .now))) (sym (add-one (old .line)) ∙ sym (line-handed .1))
+      ∙ told s (new .line) (old .rest .now) (made shown-line k) (new .rest .now) r (line-handed .0) e
+
+  pub shorter : length (new .rest .now) < length (old .rest .now)
+  shorter = line-handed .2

@@ -1,14 +1,14 @@
 -- Parting a line into fields and joining them undo one another.
 use mathlib.Core.Path.{_≡_, refl, sym, ap, _∙_}
-use mathlib.Core.Bool.{Bool, true, false, cond}
+use mathlib.Core.Bool.{true}
 use mathlib.Core.Logic.{⊎-elim}
-use mathlib.Core.List.{List, [], _∷_, _++_}
+use mathlib.Core.List.{List, [], _∷_}
 use Prim.Native.Nat.{ℕ, _*_, _≤_}
 use native.Mathlib.Omega.{arith}
 use lib.Dec.{eqb}
 use lib.ListN.{length, length-append}
 use Rattle.std.proofs.shelf.Tests.{cases-bool, cond-true, cond-false, eqb-true}
-use Rattle.job.specs.Text.{line-limit, comma, calm, Clean, before, fields, joined}
+use Rattle.job.specs.Text.{comma, calm, Clean, before, fields, joined}
 use Rattle.job.proofs.Plains.{plain, plain-fields, plain-cut}
 use Rattle.job.proofs.Words.{Some-field, fields-some}
 use Rattle.job.proofs.Cuts.{calm-append}

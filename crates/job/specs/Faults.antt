@@ -2,9 +2,7 @@
 use Prim.Native.Nat.{ℕ}
 use Rattle.job.specs.declared.faults.Layer.{Layer}
 use Rattle.job.specs.declared.faults.Layer.the-variants.{Cutter as by-cutter, Record as by-record, Job as by-job}
-use Rattle.job.specs.declared.faults.CutFault.{CutFault}
 use Rattle.job.specs.declared.faults.CutFault.the-variants.{NoEnd, TooLong}
-use Rattle.job.specs.declared.faults.RecordFault.{RecordFault}
 use Rattle.job.specs.declared.faults.RecordFault.the-variants.{Cut, NotNumber, UnknownWord}
 use Rattle.job.specs.declared.faults.JobFault.{JobFault}
 use Rattle.job.specs.declared.faults.JobFault.the-variants.{Record, NotDue, EndsEarly, OutOfRange}

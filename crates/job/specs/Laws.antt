@@ -27,7 +27,7 @@ pub data Why (front rest : List ℕ) (n : ℕ) (e : JobFault) : Type 0 where
   -- one byte more than a line may have comes without an LF, and no job's text begins so
   long-line : (head tail : List ℕ) → rest ≡ head ++ tail → calm head ≡ true → length head ≡ suc line-limit → (Begins-fit (front ++ head) → ⊥) → e ≡ Record (Cut (TooLong n)) → Why front rest n e
   -- a whole line comes, and no job's text begins with the lines up to it
-  unfit-line : (l tail : List ℕ) → rest ≡ l ++ (line-end ∷ tail) → Clean l → (Begins-fit (front ++ (l ++ (line-end ∷ []))) → ⊥) → Why front rest n e
+  unfit-line : (l tail : List ℕ) → rest ≡ l ++ (line-end ∷ tail) → Clean l → (Begins-fit (front ++ (l ++ (line-end ∷ []))) → ⊥) → 12 ≤ report e .number → Why front rest n e
 
 -- some job's text begins with all lines before the fault's line, and none with that line too
 pub record Blames (text : List ℕ) (e : JobFault) : Type 0 where
@@ -40,7 +40,7 @@ pub record Blames (text : List ℕ) (e : JobFault) : Type 0 where
   pub why : Why (text-of lines-before) rest (suc (length lines-before)) e
 
 -- what an outcome says of its text
-pub record Lawful (text : List ℕ) (o : Outcome) : Type 0 where
+pub record Read-law (text : List ℕ) (o : Outcome) : Type 0 where
   -- the text is read as a job exactly if it spells that job
   pub reads : (j : Job) → (o ≡ job j → Spells j text) × (Spells j text → o ≡ job j)
   pub blames : (e : JobFault) → o ≡ fault e → Blames text e

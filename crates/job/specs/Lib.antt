@@ -1,6 +1,7 @@
 pub mod Text
 pub mod Number
 pub mod Job
+pub mod Meaning
 pub mod Kind
 pub mod Faults
 pub mod Cutting

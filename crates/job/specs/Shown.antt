@@ -1,6 +1,7 @@
 -- What the code's values stand for in the specification.
 use mathlib.Core.Path.{_≡_}
-use mathlib.Core.List.{List, [], _∷_}
+use mathlib.Core.Bool.{Bool, true, false}
+use mathlib.Core.List.{List, []}
 use Prim.Native.Nat.{ℕ, suc, _+_, _<_}
 use lib.ListN.{length}
 use denote.Ref.{RefT}
@@ -8,6 +9,7 @@ use Rattle.std.specs.declared.option.Option.{Option}
 use Rattle.std.specs.declared.option.Option.the-variants.{Some, None}
 use Rattle.std.specs.declared.result.Result.{Result}
 use Rattle.std.specs.declared.result.Result.the-variants.{Ok, Err}
+use Rattle.std.specs.Results.{Cases}
 use Rattle.duties.specs.declared.window.Window.{Window as WindowDuty}
 use Rattle.maps.specs.declared.queue.Queue.{Queue as QueueMap}
 use Rattle.job.specs.declared.Job.{Job as JobRead}
@@ -75,6 +77,17 @@ goes (Err e) go = unfit e
 -- what the rest of a reader's text gives
 abbrev pub ahead : Reader → Outcome
 ahead r = reading (state-of (r .phase)) (suc (r .cutter .line)) (lines (r .cutter .rest .now))
+
+-- what a reader does with a line: it goes on by the ruling, or refuses and stays as it is
+pub record Taken (ruling : Ruling) (old : Reader) (r : Result (Unit {0}) JobFault) (new : Reader) : Type 0 where
+  pub ruled : ruling ≡ goes r (λ _. next (state-of (new .phase)))
+  pub cutter : new .cutter ≡ old .cutter
+  pub refused : Cases r (λ _. Unit {0}) (λ _. new ≡ old)
+
+-- what a step does: a line leads on and leaves less of the text, or the text is at its end
+abbrev pub Stepped : Reader → Bool → Reader → Type 0
+Stepped old true new = (ahead old ≡ ahead new) × (length (new .cutter .rest .now) < length (old .cutter .rest .now))
+Stepped old false new = Ended (old .cutter .rest .now) × (new ≡ old)
 
 -- what a cutter has handed out: nothing at the end of its text, or a line by its kind, if it has one
 abbrev pub Handed : Cutter → Option (Option Line) → Cutter → Type 0

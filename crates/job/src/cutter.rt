@@ -1,6 +1,6 @@
 // Cuts a text into lines. What ends a line, and how long one may be, is known here alone.
 ghost use mathlib.Core.Path.{_≡_};
-ghost use Prim.Native.Nat.{ℕ, _+_, _<_, _^_};
+ghost use Prim.Native.Nat.{_+_, _<_, _^_};
 ghost use denote.Ref.{now as held};
 ghost use lib.ListN.{length};
 ghost use Rattle.std.specs.Options.{Cases as BySome};
@@ -16,33 +16,36 @@ const LINE_LIMIT: usize = 64;
 
 // What is left of a text, after so many lines.
 #[derive(Drop)]
-pub struct Cutter<'a> {
+pub(crate) struct Cutter<'a> {
     rest: &'a [u8],
     line: usize,
     ghost countable: { line + length (held rest) < 2 ^ 63 },
 }
 
 impl<'a> Cutter<'a> {
-    pub fn new(text: &'a [u8]) -> Cutter<'a>
+    pub(crate) fn new(text: &'a [u8]) -> Cutter<'a>
         ensures whole { λ r. ⌜ now (r .rest) ≡ now (text .entry) ⌝ }
         ensures first { λ r. ⌜ r .line ≡ 0 ⌝ }
     {
-        Cutter { rest: text, line: 0 }
+        Cutter {
+            rest: text,
+            line: 0,
+        }
     }
 
     // How many lines have been cut.
-    pub fn line(&self) -> usize
+    pub(crate) fn line(&self) -> usize
         ensures { λ r. ⌜ r ≡ now (self .entry) .line ⌝ }
     {
         self.line
     }
 
     // The next line without its end; none at the end of the text.
-    pub fn next(&mut self) -> Result<Option<&'a [u8]>, CutFault>
+    pub(crate) fn next(&mut self) -> Result<Option<&'a [u8]>, CutFault>
         ensures { λ r. ⌜ Cases r
             (λ o. BySome o
-                (Ended (now (now (self .entry) .rest)) × (now (self .exit) ≡ now (self .entry)))
-                (λ l. Cut-off (now (now (self .entry) .rest)) (now l) (now (now (self .exit) .rest)) × (now (self .exit) .line ≡ now (self .entry) .line + 1) × (length (now (now (self .exit) .rest)) < length (now (now (self .entry) .rest)))))
+            (Ended (now (now (self .entry) .rest)) × (now (self .exit) ≡ now (self .entry)))
+            (λ l. Cut-off (now (now (self .entry) .rest)) (now l) (now (now (self .exit) .rest)) × (now (self .exit) .line ≡ now (self .entry) .line + 1) × (length (now (now (self .exit) .rest)) < length (now (now (self .entry) .rest)))))
             (λ e. Uncut (now (now (self .entry) .rest)) (now (self .entry) .line + 1) e × (now (self .exit) ≡ now (self .entry))) ⌝ }
     {
         if self.rest.is_empty() {

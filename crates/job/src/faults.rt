@@ -73,9 +73,15 @@ impl JobFault {
         ensures { λ r. ⌜ r ≡ report self .line ⌝ }
     {
         match self {
-            JobFault::Record(RecordFault::Cut(CutFault::NoEnd { line } | CutFault::TooLong { line })) => line,
-            JobFault::Record(RecordFault::NotNumber { line, .. } | RecordFault::UnknownWord { line, .. }) => line,
-            JobFault::NotDue { line } | JobFault::EndsEarly { line } | JobFault::OutOfRange { line, .. } => line,
+            JobFault::Record(
+                RecordFault::Cut(CutFault::NoEnd { line } | CutFault::TooLong { line }),
+            ) => line,
+            JobFault::Record(
+                RecordFault::NotNumber { line, .. } | RecordFault::UnknownWord { line, .. },
+            ) => line,
+            JobFault::NotDue { line }
+            | JobFault::EndsEarly { line }
+            | JobFault::OutOfRange { line, .. } => line,
         }
     }
 
@@ -84,7 +90,9 @@ impl JobFault {
         ensures { λ r. ⌜ r ≡ report self .field ⌝ }
     {
         match self {
-            JobFault::Record(RecordFault::NotNumber { field, .. } | RecordFault::UnknownWord { field, .. }) => field,
+            JobFault::Record(
+                RecordFault::NotNumber { field, .. } | RecordFault::UnknownWord { field, .. },
+            ) => field,
             JobFault::OutOfRange { field, .. } => field,
             _ => 0,
         }

@@ -12,7 +12,7 @@ ghost use Rattle.job.specs.Shown.{seen, seen-two, seen-three, fields-left};
 const COMMA: u8 = b',';
 
 // The first field of a line, and what comes after its comma.
-pub fn first_field<'a>(line: &'a [u8]) -> (&'a [u8], Option<&'a [u8]>)
+pub(crate) fn first_field<'a>(line: &'a [u8]) -> (&'a [u8], Option<&'a [u8]>)
     ensures { λ r. ⌜ fields (now (line .entry)) ≡ now (r .0) ∷ fields-left (r .1) ⌝ }
 {
     for (end, byte) in line.iter().enumerate() {
@@ -24,7 +24,7 @@ pub fn first_field<'a>(line: &'a [u8]) -> (&'a [u8], Option<&'a [u8]>)
 }
 
 // The one field that is left, if it is just one; so with two and three.
-pub fn one_field<'a>(rest: Option<&'a [u8]>) -> Option<&'a [u8]>
+pub(crate) fn one_field<'a>(rest: Option<&'a [u8]>) -> Option<&'a [u8]>
     ensures { λ r. ⌜ seen r ≡ one (fields-left (rest .entry)) ⌝ }
 {
     let (field, more) = first_field(rest?);
@@ -34,7 +34,7 @@ pub fn one_field<'a>(rest: Option<&'a [u8]>) -> Option<&'a [u8]>
     }
 }
 
-pub fn two_fields<'a>(rest: Option<&'a [u8]>) -> Option<(&'a [u8], &'a [u8])>
+pub(crate) fn two_fields<'a>(rest: Option<&'a [u8]>) -> Option<(&'a [u8], &'a [u8])>
     ensures { λ r. ⌜ seen-two r ≡ two (fields-left (rest .entry)) ⌝ }
 {
     let (field, more) = first_field(rest?);
@@ -42,7 +42,7 @@ pub fn two_fields<'a>(rest: Option<&'a [u8]>) -> Option<(&'a [u8], &'a [u8])>
     Some((field, last))
 }
 
-pub fn three_fields<'a>(rest: Option<&'a [u8]>) -> Option<(&'a [u8], &'a [u8], &'a [u8])>
+pub(crate) fn three_fields<'a>(rest: Option<&'a [u8]>) -> Option<(&'a [u8], &'a [u8], &'a [u8])>
     ensures { λ r. ⌜ seen-three r ≡ three (fields-left (rest .entry)) ⌝ }
 {
     let (field, more) = first_field(rest?);
@@ -51,7 +51,7 @@ pub fn three_fields<'a>(rest: Option<&'a [u8]>) -> Option<(&'a [u8], &'a [u8], &
 }
 
 // Whether a field is this word.
-pub fn is_word(field: &[u8], word: &[u8]) -> bool
+pub(crate) fn is_word(field: &[u8], word: &[u8]) -> bool
     ensures { λ r. ⌜ r ≡ sameBytes (now (field .entry)) (now (word .entry)) ⌝ }
 {
     field == word
@@ -72,13 +72,17 @@ fn digit_value(byte: u8) -> u16
 }
 
 // A number of 1 to 3 digits without leading zero.
-pub fn read_number(field: &[u8]) -> Option<u16>
+pub(crate) fn read_number(field: &[u8]) -> Option<u16>
     ensures { λ r. ⌜ r ≡ number (now (field .entry)) ⌝ }
 {
     match field {
         [a] if is_digit(*a, b'0') => Some(digit_value(*a)),
-        [a, b] if is_digit(*a, b'1') && is_digit(*b, b'0') => Some(10 * digit_value(*a) + digit_value(*b)),
-        [a, b, c] if is_digit(*a, b'1') && is_digit(*b, b'0') && is_digit(*c, b'0') => Some(100 * digit_value(*a) + 10 * digit_value(*b) + digit_value(*c)),
+        [a, b] if is_digit(*a, b'1') && is_digit(*b, b'0') => Some(
+            10 * digit_value(*a) + digit_value(*b),
+        ),
+        [a, b, c] if is_digit(*a, b'1') && is_digit(*b, b'0') && is_digit(*c, b'0') => Some(
+            100 * digit_value(*a) + 10 * digit_value(*b) + digit_value(*c),
+        ),
         _ => None,
     }
 }

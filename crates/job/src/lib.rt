@@ -1,5 +1,6 @@
 // Reads a job text: the cutter parts it into lines, the records tell their kinds, words and numbers, the reader makes the job.
 ghost use mathlib.Core.Path.{_≡_};
+ghost use Rattle.job.specs.Laws.{Read-law};
 ghost use Rattle.job.specs.Reading.{outcome};
 ghost use Rattle.job.specs.Shown.{shown};
 use duties::Window;
@@ -25,9 +26,8 @@ pub struct Job {
 
 // The job that a text says, or the fault of its first unfit line.
 pub fn read(text: &[u8]) -> Result<Job, JobFault>
-    ensures { λ r. ⌜ shown r ≡ outcome (now (text .entry)) ⌝ }
+    ensures outcome { λ r. ⌜ shown r ≡ outcome (now (text .entry)) ⌝ }
+    ensures law { λ r. ⌜ Read-law (now (text .entry)) (shown r) ⌝ }
 {
-    let mut reader = reader::Reader::new(text);
-    'lines: while reader.step()? {}
-    reader.finish()
+    reader::Reader::new(text).read()
 }

@@ -1,16 +1,13 @@
 // Reads a job: what may come next depends on what has come.
 ghost use mathlib.Core.Path.{_≡_};
-ghost use mathlib.Core.Bool.{true, false};
-ghost use Prim.Native.Nat.{ℕ, suc, _≤_, _<_};
-ghost use lib.ListN.{length};
+ghost use Prim.Native.Nat.{ℕ, suc, _≤_};
 ghost use Rattle.std.specs.Results.{Cases};
 ghost use Rattle.std.specs.declared.option.Option.the-variants.{Some};
 ghost use Rattle.job.specs.Number.{number};
 ghost use Rattle.job.specs.Job.{capacity-top};
 ghost use Rattle.job.specs.Kind.{duty-line, queue-line, made};
-ghost use Rattle.job.specs.Cutting.{Ended};
-ghost use Rattle.job.specs.Reading.{Ruling, next, unfit, due-duty, due-map, within, worded, duty-word, bounded, ruled, judged, fault, at-end};
-ghost use Rattle.job.specs.Shown.{seen, shown-line, shown-duty, shown, state-of, goes, ahead};
+ghost use Rattle.job.specs.Reading.{Ruling, next, unfit, due-duty, due-map, within, worded, duty-word, bounded, ruled, judged, fault, at-end, outcome};
+ghost use Rattle.job.specs.Shown.{seen, shown-line, shown-duty, shown, state-of, goes, ahead, Taken, Stepped};
 use crate::Job;
 use crate::cutter::Cutter;
 use crate::faults::JobFault;
@@ -28,7 +25,7 @@ const DEFAULT_BOUND: u8 = 8;
 
 // What is due, with what has come.
 #[derive(Clone, Copy)]
-pub enum Phase {
+pub(crate) enum Phase {
     Duty,
     Map { duty: Window },
     // the job is whole; closings may follow once they are taken
@@ -36,26 +33,34 @@ pub enum Phase {
 }
 
 #[derive(Drop)]
-pub struct Reader<'a> {
+pub(crate) struct Reader<'a> {
     cutter: Cutter<'a>,
     phase: Phase,
 }
 
 impl<'a> Reader<'a> {
-    pub fn new(text: &'a [u8]) -> Reader<'a>
-        ensures whole { λ r. ⌜ now (r .cutter .rest) ≡ now (text .entry) ⌝ }
-        ensures first { λ r. ⌜ r .cutter .line ≡ 0 ⌝ }
-        ensures due { λ r. ⌜ state-of (r .phase) ≡ due-duty ⌝ }
+    pub(crate) fn new(text: &'a [u8]) -> Reader<'a>
+        ensures { λ r. ⌜ ahead r ≡ outcome (now (text .entry)) ⌝ }
     {
-        Reader { cutter: Cutter::new(text), phase: Phase::Duty }
+        Reader {
+            cutter: Cutter::new(text),
+            phase: Phase::Duty,
+        }
+    }
+
+    // Reads to the end of the text.
+    pub(crate) fn read(mut self) -> Result<Job, JobFault>
+        ensures { λ r. ⌜ shown r ≡ ahead (self .entry) ⌝ }
+    {
+        'lines: while self.step()? {}
+        self.finish()
     }
 
     // Takes the next line; false at the end of the text.
-    pub fn step(&mut self) -> Result<bool, JobFault>
+    fn step(&mut self) -> Result<bool, JobFault>
         ensures { λ r. ⌜ Cases r
-            (λ more. (more ≡ true → (ahead (now (self .entry)) ≡ ahead (now (self .exit))) × (length (now (now (self .exit) .cutter .rest)) < length (now (now (self .entry) .cutter .rest))))
-                × (more ≡ false → Ended (now (now (self .entry) .cutter .rest)) × (now (self .exit) ≡ now (self .entry))))
-            (λ e. ahead (now (self .entry)) ≡ fault e) ⌝ }
+            (λ more. Stepped (now (self .entry)) more (now (self .exit)))
+            (λ e. (ahead (now (self .entry)) ≡ fault e) × (now (self .exit) .phase ≡ now (self .entry) .phase)) ⌝ }
     {
         match next_line(&mut self.cutter)? {
             Some(line) => {
@@ -68,9 +73,7 @@ impl<'a> Reader<'a> {
 
     // Takes a line if its kind is due.
     fn take(&mut self, line: Option<Line<'a>>) -> Result<(), JobFault>
-        ensures ruled { λ r. ⌜ judged (now (self .entry) .cutter .line) (state-of (now (self .entry) .phase)) (made shown-line (line .entry)) ≡ goes r (λ _. next (state-of (now (self .exit) .phase))) ⌝ }
-        ensures cutter { λ _. ⌜ now (self .exit) .cutter ≡ now (self .entry) .cutter ⌝ }
-        ensures refused { λ r. ⌜ Cases r (λ _. Unit {0}) (λ _. now (self .exit) ≡ now (self .entry)) ⌝ }
+        ensures { λ r. ⌜ Taken (judged (now (self .entry) .cutter .line) (state-of (now (self .entry) .phase)) (made shown-line (line .entry))) (now (self .entry)) r (now (self .exit)) ⌝ }
     {
         match (&self.phase, line) {
             (Phase::Duty, Some(Line::Duty { word, bound })) => self.take_duty(word, bound),
@@ -78,14 +81,14 @@ impl<'a> Reader<'a> {
                 let duty = *duty;
                 self.take_queue(duty, capacity)
             }
-            _ => Err(JobFault::NotDue { line: self.cutter.line() }),
+            _ => Err(JobFault::NotDue {
+                line: self.cutter.line(),
+            }),
         }
     }
 
     fn take_duty(&mut self, word: &[u8], bound: Option<&[u8]>) -> Result<(), JobFault>
-        ensures ruled { λ r. ⌜ ruled (now (self .entry) .cutter .line) due-duty (duty-line (now (word .entry)) (seen (bound .entry))) ≡ goes r (λ _. next (state-of (now (self .exit) .phase))) ⌝ }
-        ensures cutter { λ _. ⌜ now (self .exit) .cutter ≡ now (self .entry) .cutter ⌝ }
-        ensures refused { λ r. ⌜ Cases r (λ _. Unit {0}) (λ _. now (self .exit) ≡ now (self .entry)) ⌝ }
+        ensures { λ r. ⌜ Taken (ruled (now (self .entry) .cutter .line) due-duty (duty-line (now (word .entry)) (seen (bound .entry)))) (now (self .entry)) r (now (self .exit)) ⌝ }
     {
         let duty = duty_record(word, bound, self.cutter.line())?;
         self.phase = Phase::Map { duty };
@@ -93,9 +96,7 @@ impl<'a> Reader<'a> {
     }
 
     fn take_queue(&mut self, duty: Window, capacity: &[u8]) -> Result<(), JobFault>
-        ensures ruled { λ r. ⌜ ruled (now (self .entry) .cutter .line) (due-map (shown-duty duty)) (queue-line (now (capacity .entry))) ≡ goes r (λ _. next (state-of (now (self .exit) .phase))) ⌝ }
-        ensures cutter { λ _. ⌜ now (self .exit) .cutter ≡ now (self .entry) .cutter ⌝ }
-        ensures refused { λ r. ⌜ Cases r (λ _. Unit {0}) (λ _. now (self .exit) ≡ now (self .entry)) ⌝ }
+        ensures { λ r. ⌜ Taken (ruled (now (self .entry) .cutter .line) (due-map (shown-duty duty)) (queue-line (now (capacity .entry)))) (now (self .entry)) r (now (self .exit)) ⌝ }
     {
         let map = queue_record(capacity, self.cutter.line())?;
         self.phase = Phase::Close { duty, map };
@@ -103,11 +104,13 @@ impl<'a> Reader<'a> {
     }
 
     // The job, where the text ends.
-    pub fn finish(self) -> Result<Job, JobFault>
+    fn finish(self) -> Result<Job, JobFault>
         ensures { λ r. ⌜ shown r ≡ at-end (state-of (self .entry .phase)) (suc (self .entry .cutter .line)) ⌝ }
     {
         match self.phase {
-            Phase::Duty | Phase::Map { .. } => Err(JobFault::EndsEarly { line: self.cutter.line() + 1 }),
+            Phase::Duty | Phase::Map { .. } => Err(JobFault::EndsEarly {
+                line: self.cutter.line() + 1,
+            }),
             Phase::Close { duty, map } => Ok(Job { duty, map }),
         }
     }

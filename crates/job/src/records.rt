@@ -22,7 +22,7 @@ use crate::fields::two_fields;
 
 // The words that begin a line.
 #[derive(Clone, Copy)]
-pub enum Keyword {
+pub(crate) enum Keyword {
     Duty,
     Site,
     Queue,
@@ -33,19 +33,36 @@ pub enum Keyword {
 
 // The words that name a duty.
 #[derive(Clone, Copy)]
-pub enum DutyWord {
+pub(crate) enum DutyWord {
     Window,
 }
 
 // A line by its kind.
 #[derive(Clone, Copy)]
-pub enum Line<'a> {
-    Duty { word: &'a [u8], bound: Option<&'a [u8]> },
-    Site { count: &'a [u8] },
-    Queue { capacity: &'a [u8] },
-    Place { number: &'a [u8], side: &'a [u8], mark: &'a [u8] },
-    Way { from: &'a [u8], to: &'a [u8] },
-    Close { from: &'a [u8], to: &'a [u8] },
+pub(crate) enum Line<'a> {
+    Duty {
+        word: &'a [u8],
+        bound: Option<&'a [u8]>,
+    },
+    Site {
+        count: &'a [u8],
+    },
+    Queue {
+        capacity: &'a [u8],
+    },
+    Place {
+        number: &'a [u8],
+        side: &'a [u8],
+        mark: &'a [u8],
+    },
+    Way {
+        from: &'a [u8],
+        to: &'a [u8],
+    },
+    Close {
+        from: &'a [u8],
+        to: &'a [u8],
+    },
 }
 
 // The keyword that a line's first field is.
@@ -78,7 +95,10 @@ fn duty_line<'a>(rest: Option<&'a [u8]>) -> Option<Line<'a>>
         None => Some(Line::Duty { word, bound: None }),
         Some(_) => {
             let bound = one_field(more)?;
-            Some(Line::Duty { word, bound: Some(bound) })
+            Some(Line::Duty {
+                word,
+                bound: Some(bound),
+            })
         }
     }
 }
@@ -114,7 +134,9 @@ fn line_kind<'a>(line: &'a [u8]) -> Option<Line<'a>>
 }
 
 // The next line by its kind, or `Some(None)` where it has none; none at the end of the text.
-pub fn next_line<'a>(cutter: &mut Cutter<'a>) -> Result<Option<Option<Line<'a>>>, RecordFault>
+pub(crate) fn next_line<'a>(
+    cutter: &mut Cutter<'a>,
+) -> Result<Option<Option<Line<'a>>>, RecordFault>
     ensures { λ r. ⌜ Cases r
         (λ o. Handed (now (cutter .entry)) o (now (cutter .exit)))
         (λ e. ((f : CutWhy) × (e ≡ Cut f) × Uncut (now (now (cutter .entry) .rest)) (now (cutter .entry) .line + 1) f) × (now (cutter .exit) ≡ now (cutter .entry))) ⌝ }
@@ -126,7 +148,7 @@ pub fn next_line<'a>(cutter: &mut Cutter<'a>) -> Result<Option<Option<Line<'a>>>
 }
 
 // The number in a field.
-pub fn numeral(text: &[u8], line: usize, field: u8) -> Result<u16, RecordFault>
+pub(crate) fn numeral(text: &[u8], line: usize, field: u8) -> Result<u16, RecordFault>
     ensures { λ r. ⌜ Cases r (λ n. number (now (text .entry)) ≡ Some n) (λ e. (number (now (text .entry)) ≡ None) × (e ≡ NotNumber line field)) ⌝ }
 {
     match read_number(text) {
@@ -136,7 +158,7 @@ pub fn numeral(text: &[u8], line: usize, field: u8) -> Result<u16, RecordFault>
 }
 
 // The duty's word.
-pub fn duty_word(text: &[u8], line: usize, field: u8) -> Result<DutyWord, RecordFault>
+pub(crate) fn duty_word(text: &[u8], line: usize, field: u8) -> Result<DutyWord, RecordFault>
     ensures { λ r. ⌜ Cases r (λ w. duty-word (now (text .entry)) ≡ Some w) (λ e. (duty-word (now (text .entry)) ≡ None) × (e ≡ UnknownWord line field)) ⌝ }
 {
     if is_word(text, b"window") {

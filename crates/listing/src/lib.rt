@@ -158,7 +158,8 @@ fn one_if_house(count: u16) -> u8
 // How many places the house is given.
 fn count_houses<M: Map, D: Duty>(map: &M, duty: &D, count: &[u16]) -> u8
     requires { ⌜ positions (M·Map .graph (now map)) (D·Duty .rule (now duty)) ≤ length (now count) ⌝ }
-    ensures { λ r. ⌜ r ≡ house-places (M·Map .graph (now (map .entry))) (D·Duty .rule (now (duty .entry))) (table [] (now (count .entry))) (M·Map .graph (now (map .entry)) .size) ⌝ }
+    ensures { λ r. ⌜ r ≡ house-places (M·Map .graph (now (map .entry))) (D·Duty .rule (now (duty .entry))) (table [] (now (count .entry)))
+        (M·Map .graph (now (map .entry)) .size) ⌝ }
 {
     let mut houses = 0;
     for v in 0..map.size() {
@@ -177,7 +178,9 @@ fn put_places<M: Map, D: Duty>(
 ) -> usize
     requires counts { ⌜ positions (M·Map .graph (now map)) (D·Duty .rule (now duty)) ≤ length (now count) ⌝ }
     requires room { ⌜ at + 26 * 128 ≤ length (now space) ⌝ }
-    ensures text { λ r. ⌜ Put at (text-of (place-lines (M·Map .graph (now (map .entry))) (D·Duty .rule (now (duty .entry))) (table [] (now (count .entry))) (M·Map .graph (now (map .entry)) .size))) (now (space .entry)) (now (space .exit)) r ⌝ }
+    ensures text { λ r. ⌜ Put at
+        (text-of (place-lines (M·Map .graph (now (map .entry))) (D·Duty .rule (now (duty .entry))) (table [] (now (count .entry))) (M·Map .graph (now (map .entry)) .size)))
+        (now (space .entry)) (now (space .exit)) r ⌝ }
     ensures most { λ r. ⌜ r ≤ at + 26 * 128 ⌝ }
 {
     let mut end = at;
@@ -192,7 +195,9 @@ fn put_places<M: Map, D: Duty>(
 fn put_listing<M: Map, D: Duty>(map: &M, duty: &D, count: &[u16], space: &mut [u8]) -> usize
     requires counts { ⌜ positions (M·Map .graph (now map)) (D·Duty .rule (now duty)) ≤ length (now count) ⌝ }
     requires room { ⌜ 26 * 129 ≤ length (now space) ⌝ }
-    ensures text { λ r. ⌜ Put 0 (listing (M·Map .graph (now (map .entry))) (D·Duty .rule (now (duty .entry))) (table [] (now (count .entry)))) (now (space .entry)) (now (space .exit)) r ⌝ }
+    ensures text { λ r. ⌜ Put 0
+        (listing (M·Map .graph (now (map .entry))) (D·Duty .rule (now (duty .entry))) (table [] (now (count .entry))))
+        (now (space .entry)) (now (space .exit)) r ⌝ }
     ensures most { λ r. ⌜ r ≤ 26 * 129 ⌝ }
 {
     let houses = count_houses(map, duty, count);
@@ -207,7 +212,9 @@ pub fn write_listing<M: Map, D: Duty>(
     count: &[u16],
     space: &mut [u8],
 ) -> Result<usize, Refusal>
-    ensures { λ r. ⌜ Cases r (Listed (M·Map .graph (now (map .entry))) (D·Duty .rule (now (duty .entry))) (now (count .entry)) (now (space .entry)) (now (space .exit))) (Refused (M·Map .graph (now (map .entry))) (D·Duty .rule (now (duty .entry))) (now (count .entry)) (now (space .entry)) (now (space .exit))) ⌝ }
+    ensures { λ r. ⌜ Cases r
+        (Listed (M·Map .graph (now (map .entry))) (D·Duty .rule (now (duty .entry))) (now (count .entry)) (now (space .entry)) (now (space .exit)))
+        (Refused (M·Map .graph (now (map .entry))) (D·Duty .rule (now (duty .entry))) (now (count .entry)) (now (space .entry)) (now (space .exit))) ⌝ }
 {
     if count.len() < map.size() as usize * duty.codes() as usize {
         return Err(Refusal::Short);

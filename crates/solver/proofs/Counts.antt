@@ -17,6 +17,7 @@ use Rattle.game.proofs.Rounds.{kept, new, none-one, small}
 use Rattle.game.proofs.Ends.{quiet-rounds}
 use Rattle.solver.specs.Rounds.{gains, gains-at, flag, settled, Flagged, Settled, Due-rows, Counts}
 use Rattle.solver.specs.Rows.{Rows}
+use Rattle.solver.proofs.Entries.{entry-in}
 use Rattle.solver.proofs.Moves.{gains-same}
 
 flag-settled : (b : Bool) (n x : ℕ) → settled n (flag b) x ≡ or-else x (cond b n 0)
@@ -99,4 +100,4 @@ module _ (g : Graph) (d : Rule) (fit : Fit g) (lawful : Lawful d) where
 -- no round has given anything yet
 pub counts-none : (g : Graph) (d : Rule) (count : List ℕ) → ((k : ℕ) → k < g .size * d .codes → getD count k 0 ≡ 0) → Counts g d 0 count
 counts-none g d count clear v c lv lc =
-    clear (v * d .codes + c) (Rattle.solver.proofs.Moves.entry-in (g .size) (d .codes) v c (g .size * d .codes) lv lc (omega arith)) ∙ sym (omega (arith, small g d 0 v c))
+    clear (v * d .codes + c) (entry-in (g .size) (d .codes) v c (g .size * d .codes) lv lc (omega arith)) ∙ sym (omega (arith, small g d 0 v c))

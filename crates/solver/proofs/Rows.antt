@@ -13,7 +13,7 @@ use Rattle.std.proofs.shelf.Tests.{cases-lt}
 use Rattle.game.specs.Table.{entry}
 use Rattle.solver.specs.Rounds.{Due, Due-rows}
 use Rattle.solver.specs.Rows.{Tail, Rows}
-use Rattle.solver.proofs.Moves.{next-row}
+use Rattle.solver.proofs.Entries.{next-row}
 
 module _ (a e : ℕ) (xs ys : List ℕ) (fwd : a ≤ e) (within : e ≤ length xs) (same : length ys ≡ e - a) where
   front : length (take a xs) ≡ a

@@ -3,14 +3,27 @@ ghost use mathlib.Core.Path.{_≡_};
 ghost use mathlib.Core.Bool.{true, false};
 ghost use Prim.Native.Nat.{ℕ, _+_, _*_, _<_, _≤_};
 ghost use lib.ListN.{length, getD};
-ghost use Rattle.game.specs.Rounds.{positions, Quiet};
+ghost use Rattle.game.specs.Rounds.{positions, attracted, Quiet};
+ghost use Rattle.game.specs.Table.{entry};
 ghost use Rattle.solver.specs.Rows.{Tail, Rows};
+ghost use Rattle.solver.specs.Moves.{Within};
 ghost use Rattle.solver.specs.Rounds.{Counts, Finished, gains-at, settled, Flagged, Settled, Due, Due-rows};
-use crate::moving::first_move;
-use crate::moving::move_count;
+use crate::moving::all_counted;
+use crate::moving::some_counted;
 use game::Duty;
 use game::Map;
 use game::Side;
+
+// Whether place v gets a count from the counts where its moves lead, at code e.
+fn attracts<M: Map>(map: &M, s: u8, count: &[u16], v: u8, e: u8) -> bool
+    requires { ⌜ Within (M·Map .graph (now map)) s (now count) v e ⌝ }
+    ensures { λ r. ⌜ r ≡ attracted (M·Map .graph (now (map .entry))) v (λ t. entry s (now (count .entry)) t e) ⌝ }
+{
+    match map.side(v) {
+        Side::House => all_counted(map, s, count, v, e),
+        Side::Guest => some_counted(map, s, count, v, e),
+    }
+}
 
 // Whether a position without a count gets one from the counts so far.
 fn gains<M: Map, D: Duty>(map: &M, duty: &D, count: &[u16], v: u8, c: u8) -> bool
@@ -18,13 +31,9 @@ fn gains<M: Map, D: Duty>(map: &M, duty: &D, count: &[u16], v: u8, c: u8) -> boo
     requires room { ⌜ positions (M·Map .graph (now map)) (D·Duty .rule (now duty)) ≤ length (now count) ⌝ }
     ensures { λ r. ⌜ r ≡ gains-at (M·Map .graph (now (map .entry))) (D·Duty .rule (now (duty .entry))) (now (count .entry)) v c ⌝ }
 {
-    let s = duty.codes();
     match duty.step(c, map.mark(v)) {
         None => true,
-        Some(e) => match map.side(v) {
-            Side::House => first_move(map, s, count, v, e, false) == move_count(map, v),
-            Side::Guest => first_move(map, s, count, v, e, true) != move_count(map, v),
-        },
+        Some(e) => attracts(map, duty.codes(), count, v, e),
     }
 }
 
@@ -33,7 +42,8 @@ fn flag_row<M: Map, D: Duty>(map: &M, duty: &D, count: &[u16], v: u8, row: &mut 
     requires on { ⌜ v < M·Map .graph (now map) .size ⌝ }
     requires room { ⌜ positions (M·Map .graph (now map)) (D·Duty .rule (now duty)) ≤ length (now count) ⌝ }
     requires width { ⌜ length (now row) ≡ D·Duty .rule (now duty) .codes ⌝ }
-    ensures { λ _. ⌜ ((c : ℕ) → c < D·Duty .rule (now (duty .entry)) .codes → Flagged (M·Map .graph (now (map .entry))) (D·Duty .rule (now (duty .entry))) (now (count .entry)) v c (getD (now (row .exit)) c 0)) ⌝ }
+    ensures { λ _. ⌜ ((c : ℕ) → c < D·Duty .rule (now (duty .entry)) .codes →
+        Flagged (M·Map .graph (now (map .entry))) (D·Duty .rule (now (duty .entry))) (now (count .entry)) v c (getD (now (row .exit)) c 0)) ⌝ }
 {
     for c in 0..duty.codes() {
         row[c as usize] = if gains(map, duty, count, v, c) { 1 } else { 0 };
@@ -44,7 +54,9 @@ fn flag_row<M: Map, D: Duty>(map: &M, duty: &D, count: &[u16], v: u8, row: &mut 
 fn flag_rows<M: Map, D: Duty>(map: &M, duty: &D, count: &[u16], plan: &mut [u8])
     requires plans { ⌜ positions (M·Map .graph (now map)) (D·Duty .rule (now duty)) ≤ length (now plan) ⌝ }
     requires counts { ⌜ positions (M·Map .graph (now map)) (D·Duty .rule (now duty)) ≤ length (now count) ⌝ }
-    ensures { λ _. ⌜ Rows (M·Map .graph (now (map .entry)) .size) (D·Duty .rule (now (duty .entry)) .codes) (Flagged (M·Map .graph (now (map .entry))) (D·Duty .rule (now (duty .entry))) (now (count .entry))) (now (plan .entry)) (now (plan .exit)) ⌝ }
+    ensures { λ _. ⌜ Rows (M·Map .graph (now (map .entry)) .size) (D·Duty .rule (now (duty .entry)) .codes)
+        (Flagged (M·Map .graph (now (map .entry))) (D·Duty .rule (now (duty .entry))) (now (count .entry)))
+        (now (plan .entry)) (now (plan .exit)) ⌝ }
 {
     let s = duty.codes() as usize;
     for v in 0..map.size() {
@@ -56,7 +68,8 @@ fn flag_rows<M: Map, D: Duty>(map: &M, duty: &D, count: &[u16], plan: &mut [u8])
 // Gives r to the flagged entries of a row that have no count, and answers whether there was one.
 fn settle_row(r: u16, flags: &[u8], row: &mut [u16]) -> bool
     requires { ⌜ length (now flags) ≡ length (now row) ⌝ }
-    ensures each { λ _. ⌜ ((c : ℕ) → c < length (now (row .entry)) → getD (now (row .exit)) c 0 ≡ settled r (getD (now (flags .entry)) c 0) (getD (now (row .entry)) c 0)) ⌝ }
+    ensures each { λ _. ⌜ ((c : ℕ) → c < length (now (row .entry)) →
+        getD (now (row .exit)) c 0 ≡ settled r (getD (now (flags .entry)) c 0) (getD (now (row .entry)) c 0)) ⌝ }
     ensures none { λ gave. ⌜ (gave ≡ false → now (row .exit) ≡ now (row .entry)) ⌝ }
     ensures some { λ gave. ⌜ (gave ≡ true → Due (now (flags .entry)) (now (row .entry)) (length (now (row .entry)))) ⌝ }
 {
@@ -104,8 +117,10 @@ fn count_round<M: Map, D: Duty>(
     ensures given { λ _. ⌜ Counts (M·Map .graph (now (map .entry))) (D·Duty .rule (now (duty .entry))) (done + 1) (now (count .exit)) ⌝ }
     ensures quiet { λ gave. ⌜ (gave ≡ false → Quiet (M·Map .graph (now (map .entry))) (D·Duty .rule (now (duty .entry))) done) ⌝ }
     ensures loud { λ gave. ⌜ (gave ≡ true → Quiet (M·Map .graph (now (map .entry))) (D·Duty .rule (now (duty .entry))) done → ⊥) ⌝ }
-    ensures plans { λ _. ⌜ Tail (positions (M·Map .graph (now (map .entry))) (D·Duty .rule (now (duty .entry)))) (now (plan .entry)) (now (plan .exit)) ⌝ }
-    ensures counts { λ _. ⌜ Tail (positions (M·Map .graph (now (map .entry))) (D·Duty .rule (now (duty .entry)))) (now (count .entry)) (now (count .exit)) ⌝ }
+    ensures plans { λ _. ⌜ Tail (positions (M·Map .graph (now (map .entry))) (D·Duty .rule (now (duty .entry))))
+        (now (plan .entry)) (now (plan .exit)) ⌝ }
+    ensures counts { λ _. ⌜ Tail (positions (M·Map .graph (now (map .entry))) (D·Duty .rule (now (duty .entry))))
+        (now (count .entry)) (now (count .exit)) ⌝ }
 {
     flag_rows(map, duty, count, plan);
     settle_rows(map.size(), duty.codes(), done + 1, plan, count)
@@ -125,8 +140,10 @@ pub fn count_all<M: Map, D: Duty>(map: &M, duty: &D, plan: &mut [u8], count: &mu
     requires plans { ⌜ positions (M·Map .graph (now map)) (D·Duty .rule (now duty)) ≤ length (now plan) ⌝ }
     requires counts { ⌜ positions (M·Map .graph (now map)) (D·Duty .rule (now duty)) ≤ length (now count) ⌝ }
     ensures given { λ _. ⌜ Finished (M·Map .graph (now (map .entry))) (D·Duty .rule (now (duty .entry))) (now (count .exit)) ⌝ }
-    ensures plans { λ _. ⌜ Tail (positions (M·Map .graph (now (map .entry))) (D·Duty .rule (now (duty .entry)))) (now (plan .entry)) (now (plan .exit)) ⌝ }
-    ensures counts { λ _. ⌜ Tail (positions (M·Map .graph (now (map .entry))) (D·Duty .rule (now (duty .entry)))) (now (count .entry)) (now (count .exit)) ⌝ }
+    ensures plans { λ _. ⌜ Tail (positions (M·Map .graph (now (map .entry))) (D·Duty .rule (now (duty .entry))))
+        (now (plan .entry)) (now (plan .exit)) ⌝ }
+    ensures counts { λ _. ⌜ Tail (positions (M·Map .graph (now (map .entry))) (D·Duty .rule (now (duty .entry))))
+        (now (count .entry)) (now (count .exit)) ⌝ }
 {
     let most = map.size() as u16 * duty.codes() as u16;
     clear(&mut count[..most as usize]);

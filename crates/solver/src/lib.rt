@@ -21,7 +21,11 @@ pub fn solve<M: Map, D: Duty>(
     plan: &mut [u8],
     count: &mut [u16],
 ) -> Result<(), Refusal>
-    ensures { λ r. ⌜ Cases r (λ _. Solves (M·Map .graph (now (map .entry))) (D·Duty .rule (now (duty .entry))) (now (plan .entry)) (now (count .entry)) (now (plan .exit)) (now (count .exit))) (λ e. (e ≡ Short) × Short-of (M·Map .graph (now (map .entry))) (D·Duty .rule (now (duty .entry))) (now (plan .entry)) (now (count .entry)) (now (plan .exit)) (now (count .exit))) ⌝ }
+    ensures { λ r. ⌜ Cases r
+        (λ _. Solves (M·Map .graph (now (map .entry))) (D·Duty .rule (now (duty .entry)))
+        (now (plan .entry)) (now (count .entry)) (now (plan .exit)) (now (count .exit)))
+        (λ e. (e ≡ Short) × Short-of (M·Map .graph (now (map .entry))) (D·Duty .rule (now (duty .entry)))
+        (now (plan .entry)) (now (count .entry)) (now (plan .exit)) (now (count .exit))) ⌝ }
 {
     let most = map.size() as usize * duty.codes() as usize;
     if plan.len() < most || count.len() < most {

@@ -4,6 +4,8 @@ ghost use mathlib.Core.Bool.{true, false};
 ghost use Prim.Native.Nat.{ℕ, _<_, _≤_};
 ghost use lib.ListN.{length};
 ghost use Rattle.game.specs.Graph.{moves};
+ghost use Rattle.game.specs.Rounds.{all, any, counted};
+ghost use Rattle.game.specs.Table.{entry};
 ghost use Rattle.solver.specs.Moves.{Within, ahead, First, Least};
 use game::Map;
 
@@ -39,6 +41,22 @@ pub fn first_move<M: Map>(map: &M, s: u8, count: &[u16], v: u8, e: u8, wanted: b
     all
 }
 
+// Whether all moves lead to counted positions.
+pub fn all_counted<M: Map>(map: &M, s: u8, count: &[u16], v: u8, e: u8) -> bool
+    requires { ⌜ Within (M·Map .graph (now map)) s (now count) v e ⌝ }
+    ensures { λ r. ⌜ r ≡ all (λ t. counted (entry s (now (count .entry)) t e)) (moves (M·Map .graph (now (map .entry))) v) ⌝ }
+{
+    first_move(map, s, count, v, e, false) == move_count(map, v)
+}
+
+// Whether some move leads to a counted position.
+pub fn some_counted<M: Map>(map: &M, s: u8, count: &[u16], v: u8, e: u8) -> bool
+    requires { ⌜ Within (M·Map .graph (now map)) s (now count) v e ⌝ }
+    ensures { λ r. ⌜ r ≡ any (λ t. counted (entry s (now (count .entry)) t e)) (moves (M·Map .graph (now (map .entry))) v) ⌝ }
+{
+    first_move(map, s, count, v, e, true) != move_count(map, v)
+}
+
 // Whether n is a count, and no count was seen or n is below the lowest seen.
 fn is_lower(n: u16, low: u16) -> bool
     ensures yes { λ r. ⌜ (r ≡ true → (0 < n) × (0 < low → n < low)) ⌝ }
@@ -50,7 +68,9 @@ fn is_lower(n: u16, low: u16) -> bool
 // The lowest move to the smallest count above 0, where there is one.
 pub fn least_move<M: Map>(map: &M, s: u8, count: &[u16], v: u8, e: u8) -> u8
     requires { ⌜ Within (M·Map .graph (now map)) s (now count) v e ⌝ }
-    ensures { λ r. ⌜ ((k : ℕ) → k < length (moves (M·Map .graph (now (map .entry))) v) → 0 < ahead (M·Map .graph (now (map .entry))) s (now (count .entry)) v e k → Least (M·Map .graph (now (map .entry))) s (now (count .entry)) v e (length (moves (M·Map .graph (now (map .entry))) v)) r) ⌝ }
+    ensures { λ r. ⌜ ((k : ℕ) → k < length (moves (M·Map .graph (now (map .entry))) v) →
+        0 < ahead (M·Map .graph (now (map .entry))) s (now (count .entry)) v e k →
+        Least (M·Map .graph (now (map .entry))) s (now (count .entry)) v e (length (moves (M·Map .graph (now (map .entry))) v)) r) ⌝ }
 {
     let mut best = 8;
     let mut low = 0;

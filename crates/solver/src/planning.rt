@@ -41,7 +41,8 @@ fn plan_row<M: Map, D: Duty>(map: &M, duty: &D, count: &[u16], v: u8, row: &mut 
     requires room { ⌜ positions (M·Map .graph (now map)) (D·Duty .rule (now duty)) ≤ length (now count) ⌝ }
     requires given { ⌜ Finished (M·Map .graph (now map)) (D·Duty .rule (now duty)) (now count) ⌝ }
     requires width { ⌜ length (now row) ≡ D·Duty .rule (now duty) .codes ⌝ }
-    ensures { λ _. ⌜ ((c : ℕ) → c < D·Duty .rule (now (duty .entry)) .codes → Fit-plan (M·Map .graph (now (map .entry))) (D·Duty .rule (now (duty .entry))) (now (count .entry)) v c (getD (now (row .exit)) c 0)) ⌝ }
+    ensures { λ _. ⌜ ((c : ℕ) → c < D·Duty .rule (now (duty .entry)) .codes →
+        Fit-plan (M·Map .graph (now (map .entry))) (D·Duty .rule (now (duty .entry))) (now (count .entry)) v c (getD (now (row .exit)) c 0)) ⌝ }
 {
     for c in 0..duty.codes() {
         row[c as usize] = plan_byte(map, duty, count, v, c);
@@ -53,7 +54,9 @@ pub fn plan_all<M: Map, D: Duty>(map: &M, duty: &D, count: &[u16], plan: &mut [u
     requires plans { ⌜ positions (M·Map .graph (now map)) (D·Duty .rule (now duty)) ≤ length (now plan) ⌝ }
     requires counts { ⌜ positions (M·Map .graph (now map)) (D·Duty .rule (now duty)) ≤ length (now count) ⌝ }
     requires given { ⌜ Finished (M·Map .graph (now map)) (D·Duty .rule (now duty)) (now count) ⌝ }
-    ensures { λ _. ⌜ Rows (M·Map .graph (now (map .entry)) .size) (D·Duty .rule (now (duty .entry)) .codes) (Fit-plan (M·Map .graph (now (map .entry))) (D·Duty .rule (now (duty .entry))) (now (count .entry))) (now (plan .entry)) (now (plan .exit)) ⌝ }
+    ensures { λ _. ⌜ Rows (M·Map .graph (now (map .entry)) .size) (D·Duty .rule (now (duty .entry)) .codes)
+        (Fit-plan (M·Map .graph (now (map .entry))) (D·Duty .rule (now (duty .entry))) (now (count .entry)))
+        (now (plan .entry)) (now (plan .exit)) ⌝ }
 {
     let s = duty.codes() as usize;
     for v in 0..map.size() {

@@ -15,6 +15,6 @@ returns-in-Break-bound c =
     let word = c .first-field .result .0 .now in
     let more = c .in-Some .field-0 .now in
     let e : fields-left (c .args .rest) ≡ word ∷ fields more =
-          ap fields-left (c .in-Continue-rest .was tt) ∙ c .first-field .ensures ∙ ap (λ (o : Option (RefT (List ℕ))). word ∷ fields-left o) (c .in-Some .is) in
+    ap fields-left (c .in-Continue-rest .was tt) ∙ c .first-field .ensures ∙ ap (λ (o : Option (RefT (List ℕ))). word ∷ fields-left o) (c .in-Some .is) in
     let h : None ≡ one (fields more) = c .in-Break-bound .ensures tt ∙ ap (λ (o : Option (RefT (List ℕ))). one (fields-left o)) (c .in-Some .is) in
     ap (made shown-line) (c .from-residual-in-Break-bound .ensures) ∙ duty-many (fields-left (c .args .rest)) word more e h

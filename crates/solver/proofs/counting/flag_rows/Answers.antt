@@ -1,7 +1,7 @@
 use mathlib.Core.Path.{subst}
 use Prim.Native.Nat.{ℕ, _+_, _*_, _<_, _≤_}
 use lib.ListN.{length}
-use Rattle.solver.proofs.Moves.{row-room}
+use Rattle.solver.proofs.Entries.{row-room}
 use Rattle.solver.proofs.Rows.{rows-more}
 use Rattle.solver.proofs.counting.flag_rows.Given as given
 use Rattle.solver.proofs.counting.flag_rows.Needs as need

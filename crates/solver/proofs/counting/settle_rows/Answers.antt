@@ -6,7 +6,7 @@ use lib.ListN.{length, getD}
 use borrow.Rule.Slice.PartMut.{mid-len, midOf}
 use Rattle.std.proofs.shelf.Tests.{both-ways}
 use Rattle.solver.specs.Rounds.{settled, Due}
-use Rattle.solver.proofs.Moves.{row-in}
+use Rattle.solver.proofs.Entries.{row-in}
 use Rattle.solver.proofs.Rows.{rows-more, part-at, put-back, due-part, due-more}
 use Rattle.solver.proofs.counting.settle_rows.Needs as need
 use Rattle.solver.proofs.counting.settle_rows.Needs.{In-loop-v, then-settle-row, else-settle-row}

@@ -1,6 +1,6 @@
 use Prim.Native.Nat.{_+_}
 use native.Mathlib.Omega.{arith}
-use Rattle.solver.proofs.Moves.{best-new, best-old, best-to, best-end}
+use Rattle.solver.proofs.Best.{best-new, best-old, best-to, best-end}
 use Rattle.solver.proofs.moving.least_move.Given as given
 use Rattle.solver.proofs.moving.least_move.Needs as need
 use Rattle.solver.proofs.moving.least_move.Needs.{then-is-lower, else-is-lower}

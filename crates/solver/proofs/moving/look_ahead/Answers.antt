@@ -2,7 +2,8 @@ use mathlib.Core.Path.{ap, subst, sym, _∙_}
 use Prim.Native.Nat.{ℕ, _+_, _*_, _<_}
 use lib.ListN.{length, getD}
 use Rattle.game.proofs.Moves.{moves-inside}
-use Rattle.solver.proofs.Moves.{move-target, entry-in}
+use Rattle.solver.proofs.Entries.{entry-in}
+use Rattle.solver.proofs.Moves.{move-target}
 use Rattle.solver.proofs.moving.look_ahead.Given as given
 use Rattle.solver.proofs.moving.look_ahead.Needs as need
 

@@ -9,7 +9,8 @@ use Rattle.game.specs.Graph.{moves}
 use Rattle.game.specs.Table.{entry}
 use Rattle.game.proofs.Sides.{house-side, guest-side}
 use Rattle.solver.specs.Moves.{First, Least, ahead}
-use Rattle.solver.proofs.Moves.{entry-in, step-told, within-told}
+use Rattle.solver.proofs.Entries.{entry-in}
+use Rattle.solver.proofs.Moves.{step-told, within-told}
 use Rattle.solver.proofs.Plans.{planned-house, planned-guest}
 use Rattle.solver.proofs.planning.plan_byte.Given as given
 use Rattle.solver.proofs.planning.plan_byte.Needs as need

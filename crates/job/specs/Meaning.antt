@@ -1,12 +1,12 @@
--- The game that a job asks about.
+-- The game that a job asks about: the graph of its map and the rule of its duty.
+use Prim.Native.Nat.{ℕ}
 use Rattle.game.specs.Graph.{Graph}
 use Rattle.game.specs.Rule.{Rule}
 use Rattle.meanings.specs.Queue.{queue-graph}
 use Rattle.meanings.specs.Window.{window}
 use Rattle.job.specs.declared.records.DutyWord.{DutyWord}
 use Rattle.job.specs.declared.records.DutyWord.the-variants.{Window}
-use Rattle.job.specs.Job.{Duty, Map, queue, Job}
-use Prim.Native.Nat.{ℕ}
+use Rattle.job.specs.Job.{Map, queue, Job}
 
 abbrev pub map-graph : Map → Graph
 map-graph (queue capacity) = queue-graph capacity
