@@ -1,11 +1,8 @@
 -- What each refusal is known by: its number, and the values that it names.
 use mathlib.Core.List.{List, [], _∷_}
 use Prim.Native.Nat.{ℕ}
-use Rattle.std.specs.declared.result.Result.{Result}
-use Rattle.std.specs.declared.result.Result.the-variants.{Ok, Err}
 use Rattle.game.specs.declared.Refusal.{Refusal}
 use Rattle.game.specs.declared.Refusal.the-variants.{Limits, Full, Short, Disobeys, Space, Start, Ended, WrongSide, NoWay, Misfit}
-use Rattle.game.specs.Calls.{Reply, stands, refused}
 
 abbrev pub refusal-number : Refusal → ℕ
 refusal-number Limits = 14
@@ -31,8 +28,3 @@ refusal-values Ended = []
 refusal-values WrongSide = []
 refusal-values NoWay = []
 refusal-values Misfit = []
-
--- the reply that an answer of a shift's call stands for: a place, or a refusal by its number
-abbrev pub reply-of : Result ℕ Refusal → Reply
-reply-of (Ok v) = stands v
-reply-of (Err e) = refused (refusal-number e)

@@ -50,7 +50,7 @@ code-before g d w = d .code (map (g .mark) (take (length w - 1) w))
 abbrev pub House-keeps : Graph → Rule → ℕ → Type 0
 House-keeps g d v = (p : House-plan g) × ((w : List ℕ) → Walk g w → first w ≡ v → Follows g true p w → Broken g d w → ⊥)
 
--- some guest plan leaves every walk of n marks from v broken
+-- some guest plan leaves every walk of n marks from v broken (there are such walks, since every place has a move)
 abbrev pub Guest-breaks : Graph → Rule → ℕ → ℕ → Type 0
 Guest-breaks g d v n = (p : Guest-plan g) × ((w : List ℕ) → Walk g w → first w ≡ v → Follows g false p w → length w ≡ n → Broken g d w)
 

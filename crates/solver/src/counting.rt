@@ -136,7 +136,7 @@ fn clear(part: &mut [u16])
 }
 
 // The counts, by rounds up to the first that gives nothing.
-pub fn count_all<M: Map, D: Duty>(map: &M, duty: &D, plan: &mut [u8], count: &mut [u16])
+pub(crate) fn count_all<M: Map, D: Duty>(map: &M, duty: &D, plan: &mut [u8], count: &mut [u16])
     requires plans { ⌜ positions (M·Map .graph (now map)) (D·Duty .rule (now duty)) ≤ length (now plan) ⌝ }
     requires counts { ⌜ positions (M·Map .graph (now map)) (D·Duty .rule (now duty)) ≤ length (now count) ⌝ }
     ensures given { λ _. ⌜ Finished (M·Map .graph (now (map .entry))) (D·Duty .rule (now (duty .entry))) (now (count .exit)) ⌝ }

@@ -10,7 +10,7 @@ ghost use Rattle.solver.specs.Moves.{Within, ahead, First, Least};
 use game::Map;
 
 // How many moves a place has: one at least.
-pub fn move_count<M: Map>(map: &M, v: u8) -> u8
+pub(crate) fn move_count<M: Map>(map: &M, v: u8) -> u8
     ensures { λ r. ⌜ r ≡ length (moves (M·Map .graph (now (map .entry))) v) ⌝ }
 {
     let ways = map.ways(v);
@@ -18,7 +18,7 @@ pub fn move_count<M: Map>(map: &M, v: u8) -> u8
 }
 
 // The count where move k leads, at code e.
-pub fn look_ahead<M: Map>(map: &M, s: u8, count: &[u16], v: u8, e: u8, k: u8) -> u16
+pub(crate) fn look_ahead<M: Map>(map: &M, s: u8, count: &[u16], v: u8, e: u8, k: u8) -> u16
     requires within { ⌜ Within (M·Map .graph (now map)) s (now count) v e ⌝ }
     requires way { ⌜ k < length (moves (M·Map .graph (now map)) v) ⌝ }
     ensures { λ r. ⌜ r ≡ ahead (M·Map .graph (now (map .entry))) s (now (count .entry)) v e k ⌝ }
@@ -27,7 +27,7 @@ pub fn look_ahead<M: Map>(map: &M, s: u8, count: &[u16], v: u8, e: u8, k: u8) ->
 }
 
 // The lowest move to a counted position, if wanted, or else to one without a count. The number of moves if there is none.
-pub fn first_move<M: Map>(map: &M, s: u8, count: &[u16], v: u8, e: u8, wanted: bool) -> u8
+pub(crate) fn first_move<M: Map>(map: &M, s: u8, count: &[u16], v: u8, e: u8, wanted: bool) -> u8
     requires { ⌜ Within (M·Map .graph (now map)) s (now count) v e ⌝ }
     ensures { λ r. ⌜ First (M·Map .graph (now (map .entry))) s (now (count .entry)) v e wanted r ⌝ }
 {
@@ -42,7 +42,7 @@ pub fn first_move<M: Map>(map: &M, s: u8, count: &[u16], v: u8, e: u8, wanted: b
 }
 
 // Whether all moves lead to counted positions.
-pub fn all_counted<M: Map>(map: &M, s: u8, count: &[u16], v: u8, e: u8) -> bool
+pub(crate) fn all_counted<M: Map>(map: &M, s: u8, count: &[u16], v: u8, e: u8) -> bool
     requires { ⌜ Within (M·Map .graph (now map)) s (now count) v e ⌝ }
     ensures { λ r. ⌜ r ≡ all (λ t. counted (entry s (now (count .entry)) t e)) (moves (M·Map .graph (now (map .entry))) v) ⌝ }
 {
@@ -50,7 +50,7 @@ pub fn all_counted<M: Map>(map: &M, s: u8, count: &[u16], v: u8, e: u8) -> bool
 }
 
 // Whether some move leads to a counted position.
-pub fn some_counted<M: Map>(map: &M, s: u8, count: &[u16], v: u8, e: u8) -> bool
+pub(crate) fn some_counted<M: Map>(map: &M, s: u8, count: &[u16], v: u8, e: u8) -> bool
     requires { ⌜ Within (M·Map .graph (now map)) s (now count) v e ⌝ }
     ensures { λ r. ⌜ r ≡ any (λ t. counted (entry s (now (count .entry)) t e)) (moves (M·Map .graph (now (map .entry))) v) ⌝ }
 {
@@ -66,7 +66,7 @@ fn is_lower(n: u16, low: u16) -> bool
 }
 
 // The lowest move to the smallest count above 0, where there is one.
-pub fn least_move<M: Map>(map: &M, s: u8, count: &[u16], v: u8, e: u8) -> u8
+pub(crate) fn least_move<M: Map>(map: &M, s: u8, count: &[u16], v: u8, e: u8) -> u8
     requires { ⌜ Within (M·Map .graph (now map)) s (now count) v e ⌝ }
     ensures { λ r. ⌜ ((k : ℕ) → k < length (moves (M·Map .graph (now (map .entry))) v) →
         0 < ahead (M·Map .graph (now (map .entry))) s (now (count .entry)) v e k →

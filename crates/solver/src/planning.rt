@@ -50,7 +50,7 @@ fn plan_row<M: Map, D: Duty>(map: &M, duty: &D, count: &[u16], v: u8, row: &mut 
 }
 
 // The plan bytes of all rows. The counts are only read.
-pub fn plan_all<M: Map, D: Duty>(map: &M, duty: &D, count: &[u16], plan: &mut [u8])
+pub(crate) fn plan_all<M: Map, D: Duty>(map: &M, duty: &D, count: &[u16], plan: &mut [u8])
     requires plans { ⌜ positions (M·Map .graph (now map)) (D·Duty .rule (now duty)) ≤ length (now plan) ⌝ }
     requires counts { ⌜ positions (M·Map .graph (now map)) (D·Duty .rule (now duty)) ≤ length (now count) ⌝ }
     requires given { ⌜ Finished (M·Map .graph (now map)) (D·Duty .rule (now duty)) (now count) ⌝ }
