@@ -1,7 +1,7 @@
-pub mod Plains
 pub mod Words
 pub mod Steps
 pub mod Cuts
+pub mod Places
 pub mod Texts
 pub mod Numbers
 pub mod Rulings

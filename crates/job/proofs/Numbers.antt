@@ -2,14 +2,14 @@
 use mathlib.Core.Path.{_≡_, refl, sym, ap, _∙_}
 use mathlib.Core.Bool.{Bool, true, false, cond, not, _&&_}
 use mathlib.Core.List.{List, [], _∷_}
-use Prim.Native.Nat.{ℕ, _+_, _-_, _*_, _≤_}
+use Prim.Native.Nat.{ℕ, _+_, _-_, _*_, _≤_, _<_}
 use native.Mathlib.Omega.{arith}
 use lib.Dec.{eqb, leb}
+use lib.ListN.{length}
 use Rattle.std.specs.declared.option.Option.the-variants.{Some, None}
 use Rattle.std.proofs.shelf.Tests.{cond-true, le-leb, leb-true, and-parts, and-from, ne-eqb, not-from-false}
-use Rattle.job.specs.Text.{line-end, comma, calm}
+use Rattle.job.specs.Text.{line-end, comma, lacks}
 use Rattle.job.specs.Number.{Numeral, digit, number}
-use Rattle.job.proofs.Plains.{plain}
 use Rattle.job.proofs.Words.{clash}
 use Rattle.job.proofs.Texts.{Neat}
 
@@ -57,23 +57,23 @@ numeral-number (a ∷ b ∷ c ∷ []) n h =
     ∙ ap (λ (x : ℕ). Some x) (sym (h .6))
 numeral-number (a ∷ b ∷ c ∷ d ∷ f) n h = absurd h
 
-module _ (b : ℕ) (h : 48 ≤ b) (bs : List ℕ) where
-  plain-digit : plain bs ≡ true → plain (b ∷ bs) ≡ true
-  plain-digit e = and-from (not (eqb b comma)) (plain bs) (not-from-false (eqb b comma) (ne-eqb b comma (λ x. omega arith))) e
+-- a digit is no comma and no LF
+lacks-digit : (b d : ℕ) (f : List ℕ) → b < 48 → 48 ≤ d → lacks b f ≡ true → lacks b (d ∷ f) ≡ true
+lacks-digit b d f l h e = and-from (not (eqb d b)) (lacks b f) (not-from-false (eqb d b) (ne-eqb d b (λ x. omega arith))) e
 
-  calm-digit : calm bs ≡ true → calm (b ∷ bs) ≡ true
-  calm-digit e = and-from (not (eqb b line-end)) (calm bs) (not-from-false (eqb b line-end) (ne-eqb b line-end (λ x. omega arith))) e
+numeral-lacks : (b : ℕ) (f : List ℕ) (n : ℕ) → b < 48 → Numeral n f → lacks b f ≡ true
+numeral-lacks b [] n l h = absurd h
+numeral-lacks b (x ∷ []) n l h = lacks-digit b x [] l (h .0) refl
+numeral-lacks b (x ∷ y ∷ []) n l h = lacks-digit b x (y ∷ []) l (omega (arith, h .0)) (lacks-digit b y [] l (h .2) refl)
+numeral-lacks b (x ∷ y ∷ z ∷ []) n l h = lacks-digit b x (y ∷ z ∷ []) l (omega (arith, h .0)) (lacks-digit b y (z ∷ []) l (h .2) (lacks-digit b z [] l (h .4) refl))
+numeral-lacks b (x ∷ y ∷ z ∷ d ∷ f) n l h = absurd h
+
+numeral-short : (f : List ℕ) (n : ℕ) → Numeral n f → length f ≤ 3
+numeral-short [] n h = absurd h
+numeral-short (x ∷ []) n h = omega arith
+numeral-short (x ∷ y ∷ []) n h = omega arith
+numeral-short (x ∷ y ∷ z ∷ []) n h = omega arith
+numeral-short (x ∷ y ∷ z ∷ d ∷ f) n h = absurd h
 
 pub numeral-neat : (f : List ℕ) (n : ℕ) → Numeral n f → Neat f
-numeral-neat [] n h = absurd h
-numeral-neat (a ∷ []) n h = (plain-digit a (h .0) [] refl, calm-digit a (h .0) [] refl, omega arith)
-numeral-neat (a ∷ b ∷ []) n h =
-    let l : 48 ≤ a = omega (arith, h .0) in
-    (plain-digit a l (b ∷ []) (plain-digit b (h .2) [] refl), calm-digit a l (b ∷ []) (calm-digit b (h .2) [] refl), omega arith)
-numeral-neat (a ∷ b ∷ c ∷ []) n h =
-    let l : 48 ≤ a = omega (arith, h .0) in (
-      plain-digit a l (b ∷ c ∷ []) (plain-digit b (h .2) (c ∷ []) (plain-digit c (h .4) [] refl)),
-      calm-digit a l (b ∷ c ∷ []) (calm-digit b (h .2) (c ∷ []) (calm-digit c (h .4) [] refl)),
-      omega arith,
-    )
-numeral-neat (a ∷ b ∷ c ∷ d ∷ f) n h = absurd h
+numeral-neat f n h = (numeral-lacks comma f n (omega arith) h, numeral-lacks line-end f n (omega arith) h, omega (arith, numeral-short f n h))

@@ -12,7 +12,7 @@ use Rattle.job.specs.Text.{lines}
 use Rattle.job.specs.Kind.{Kind, made}
 use Rattle.job.specs.Cutting.{Told}
 use Rattle.job.specs.Reading.{State, Outcome, Ruling, after, judged, reading}
-use Rattle.job.specs.Shown.{shown-line, Handed}
+use Rattle.job.specs.Inside.{shown-line, Handed}
 
 -- what a cutter's text gives, after what has come
 abbrev pub onward : State → Cutter → Outcome

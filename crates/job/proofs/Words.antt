@@ -6,11 +6,14 @@ use Prim.Native.Nat.{ℕ}
 use native.Mathlib.Omega.{arith}
 use lib.Dec.{eqb}
 use lib.ListN.{length}
-use Rattle.std.specs.declared.option.Option.the-variants.{None}
+use denote.Ref.{RefT}
+use Rattle.std.specs.declared.option.Option.{Option}
+use Rattle.std.specs.declared.option.Option.the-variants.{Some, None}
 use Rattle.std.proofs.shelf.Tests.{eqb-true}
 use Rattle.job.specs.Text.{comma, before, fields}
 use Rattle.job.specs.Cutting.{Ended}
 use Rattle.job.specs.Kind.{one, duty-kind}
+use Rattle.job.specs.Inside.{fields-left}
 
 pub clash : {P : Type 0} → _≡_ {A = ℕ} 0 1 → P
 clash e = absurd (omega arith)
@@ -33,18 +36,23 @@ one-some : (f : List ℕ) (fs : List (List ℕ)) → Some-field fs → None ≡ 
 one-some f [] h = absurd h
 one-some f (g ∷ fs) h = refl
 
--- two fields and more are not one
-pub one-many : (fs : List (List ℕ)) (f t : List ℕ) → fs ≡ f ∷ fields t → None ≡ one fs
-one-many fs f t e = one-some f (fields t) (fields-some t) ∙ ap one (sym e)
-
 duty-some : (w : List ℕ) (fs : List (List ℕ)) → Some-field fs → None ≡ one fs → None ≡ duty-kind (w ∷ fs)
 duty-some w [] h e = absurd h
 duty-some w (f ∷ []) h e = let z : _≡_ {A = ℕ} 0 1 = cc in clash z
 duty-some w (f ∷ g ∷ fs) h e = refl
 
--- a duty's line has no three fields and more after its keyword
-pub duty-many : (fs : List (List ℕ)) (w t : List ℕ) → fs ≡ w ∷ fields t → None ≡ one (fields t) → None ≡ duty-kind fs
-duty-many fs w t e h = duty-some w (fields t) (fields-some t) h ∙ ap duty-kind (sym e)
+-- fields of which the first is followed by a comma
+module _ (fs : List (List ℕ)) (f : List ℕ) (o : Option (RefT (List ℕ))) (more : RefT (List ℕ)) (e : fs ≡ f ∷ fields-left o) (is : o ≡ Some more) where
+  parted : f ∷ fields (more .now) ≡ fs
+  parted = sym (e ∙ ap (λ (x : Option (RefT (List ℕ))). f ∷ fields-left x) is)
+
+  -- they are not just one
+  pub one-many : None ≡ one fs
+  one-many = one-some f (fields (more .now)) (fields-some (more .now)) ∙ ap one parted
+
+  -- and no duty's, where the rest is not just one
+  pub duty-many : None ≡ one (fields (more .now)) → None ≡ duty-kind fs
+  duty-many h = duty-some f (fields (more .now)) (fields-some (more .now)) h ∙ ap duty-kind parted
 
 empty : (text : List ℕ) → length text ≡ 0 → Ended text
 empty [] h = refl

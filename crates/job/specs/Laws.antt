@@ -8,7 +8,7 @@ use Rattle.job.specs.declared.faults.CutFault.the-variants.{NoEnd, TooLong}
 use Rattle.job.specs.declared.faults.RecordFault.the-variants.{Cut}
 use Rattle.job.specs.declared.faults.JobFault.{JobFault}
 use Rattle.job.specs.declared.faults.JobFault.the-variants.{Record, EndsEarly}
-use Rattle.job.specs.Text.{line-end, line-limit, text-of, calm, Clean, Cleans}
+use Rattle.job.specs.Text.{line-end, line-limit, lacks, text-of, Clean, Cleans}
 use Rattle.job.specs.Job.{Job}
 use Rattle.job.specs.Faults.{report}
 use Rattle.job.specs.Reading.{Outcome, job, fault}
@@ -23,10 +23,10 @@ pub data Why (front rest : List ℕ) (n : ℕ) (e : JobFault) : Type 0 where
   -- the text ends early: more lines could make it fit
   early-end : rest ≡ [] → e ≡ EndsEarly n → Why front rest n e
   -- it ends within a line, which more bytes could end, fit or not
-  torn-line : calm rest ≡ true → 0 < length rest → length rest ≤ line-limit → e ≡ Record (Cut (NoEnd n)) → Why front rest n e
+  torn-line : lacks line-end rest ≡ true → 0 < length rest → length rest ≤ line-limit → e ≡ Record (Cut (NoEnd n)) → Why front rest n e
   -- one byte more than a line may have comes without an LF, and no job's text begins so
-  long-line : (head tail : List ℕ) → rest ≡ head ++ tail → calm head ≡ true → length head ≡ suc line-limit → (Begins-fit (front ++ head) → ⊥) → e ≡ Record (Cut (TooLong n)) → Why front rest n e
-  -- a whole line comes, and no job's text begins with the lines up to it
+  long-line : (head tail : List ℕ) → rest ≡ head ++ tail → lacks line-end head ≡ true → length head ≡ suc line-limit → (Begins-fit (front ++ head) → ⊥) → e ≡ Record (Cut (TooLong n)) → Why front rest n e
+  -- a whole line comes, and no job's text begins with the lines up to it: this is 12 to 14
   unfit-line : (l tail : List ℕ) → rest ≡ l ++ (line-end ∷ tail) → Clean l → (Begins-fit (front ++ (l ++ (line-end ∷ []))) → ⊥) → 12 ≤ report e .number → Why front rest n e
 
 -- some job's text begins with all lines before the fault's line, and none with that line too

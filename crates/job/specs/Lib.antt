@@ -7,5 +7,6 @@ pub mod Faults
 pub mod Cutting
 pub mod Reading
 pub mod Shown
+pub mod Inside
 pub mod Spelling
 pub mod Laws

@@ -31,7 +31,7 @@ pub data Ruling : Type 0 where
   next : State → Ruling
   unfit : JobFault → Ruling
 
--- a number from low on and below top, in field i of line n
+-- a number from low on and below top, in field i of line n: 13 if it is none, 14 if it is outside
 abbrev pub ranged : ℕ → ℕ → ℕ → ℕ → Option ℕ → (ℕ → Ruling) → Ruling
 ranged n i low top None go = unfit (Record (NotNumber n i))
 ranged n i low top (Some k) go = cond (leb low k && ltb k top) (go k) (unfit (OutOfRange n i))
@@ -39,7 +39,7 @@ ranged n i low top (Some k) go = cond (leb low k && ltb k top) (go k) (unfit (Ou
 abbrev pub within : ℕ → ℕ → ℕ → ℕ → List ℕ → (ℕ → Ruling) → Ruling
 within n i low top f go = ranged n i low top (number f) go
 
--- a word in field i of line n
+-- a word in field i of line n: 13 if it is unknown
 abbrev pub worded : {A : Type 0} → ℕ → ℕ → Option A → (A → Ruling) → Ruling
 worded n i None go = unfit (Record (UnknownWord n i))
 worded n i (Some a) go = go a
@@ -52,7 +52,7 @@ abbrev pub bounded : ℕ → Option (List ℕ) → DutyWord → Ruling
 bounded n None w = next (due-map (made-duty w default-bound))
 bounded n (Some b) w = within n 3 1 (bound-top w) b (λ k. next (due-map (made-duty w k)))
 
--- what line n does, by what is due and its kind
+-- what line n does, by what is due and its kind: 12 if it is not due, else by its fields from the left
 abbrev pub ruled : ℕ → State → Kind → Ruling
 ruled n due-duty (duty-line w b) = worded n 2 (duty-word w) (bounded n b)
 ruled n due-duty (site-line k) = unfit (NotDue n)
@@ -73,16 +73,17 @@ ruled n (due-close d m) (place-line v s k) = unfit (NotDue n)
 ruled n (due-close d m) (way-line f t) = unfit (NotDue n)
 ruled n (due-close d m) (close-line f t) = unfit (NotDue n)
 
+-- 12 also where a line has no kind
 abbrev pub judged : ℕ → State → Option Kind → Ruling
 judged n s None = unfit (NotDue n)
 judged n s (Some k) = ruled n s k
 
--- what a text gives
+-- what a text gives; Faults.antt has the number, line, field and layer of each fault
 pub data Outcome : Type 0 where
   job : Job → Outcome
   fault : JobFault → Outcome
 
--- the text ends where line n would begin
+-- the text ends where line n would begin: 12 if something is due
 abbrev pub at-end : State → ℕ → Outcome
 at-end due-duty n = fault (EndsEarly n)
 at-end (due-map d) n = fault (EndsEarly n)
@@ -92,7 +93,7 @@ abbrev pub after : Ruling → (State → Outcome) → Outcome
 after (next s) go = go s
 after (unfit e) go = fault e
 
--- what lines from the n-th on give, after what has come
+-- what lines from the n-th on give, after what has come: 11 where no line can be cut, whatever is due
 abbrev pub reading : State → ℕ → Lines → Outcome
 reading s n done = at-end s n
 reading s n torn = fault (Record (Cut (NoEnd n)))

@@ -49,14 +49,14 @@ abbrev pub text-of : List (List ℕ) → List ℕ
 text-of [] = []
 text-of (l ∷ ls) = l ++ (line-end ∷ text-of ls)
 
--- no byte is an LF
-abbrev pub calm : List ℕ → Bool
-calm [] = true
-calm (b ∷ bs) = not (eqb b line-end) && calm bs
+-- whether no byte is b
+abbrev pub lacks : ℕ → List ℕ → Bool
+lacks b [] = true
+lacks b (x ∷ xs) = not (eqb x b) && lacks b xs
 
 -- what a line may be
 abbrev pub Clean : List ℕ → Type 0
-Clean l = (calm l ≡ true) × (length l ≤ line-limit)
+Clean l = (lacks line-end l ≡ true) × (length l ≤ line-limit)
 
 abbrev pub Cleans : List (List ℕ) → Type 0
 Cleans [] = Unit {0}

@@ -1,11 +1,12 @@
 // Cuts a text into lines. What ends a line, and how long one may be, is known here alone.
 ghost use mathlib.Core.Path.{_≡_};
-ghost use Prim.Native.Nat.{_+_, _<_, _^_};
+ghost use Prim.Native.Nat.{_+_, _<_, _≤_, _^_};
 ghost use denote.Ref.{now as held};
 ghost use lib.ListN.{length};
 ghost use Rattle.std.specs.Options.{Cases as BySome};
 ghost use Rattle.std.specs.Results.{Cases};
-ghost use Rattle.job.specs.Cutting.{Ended, Cut-off, Uncut};
+ghost use Rattle.job.specs.Text.{line-end, line-limit};
+ghost use Rattle.job.specs.Cutting.{First-at, Endless, Ended, Cut-off, Uncut};
 use crate::faults::CutFault;
 
 // The byte that ends a line.
@@ -65,9 +66,17 @@ fn cut_line<'a>(text: &'a [u8], line: usize) -> Result<(&'a [u8], &'a [u8]), Cut
         (λ p. Cut-off (now (text .entry)) (now (p .0)) (now (p .1)) × (length (now (p .1)) < length (now (text .entry))))
         (λ e. Uncut (now (text .entry)) line e) ⌝ }
 {
+    let end = line_end(text, line)?;
+    Ok((&text[0..end], &text[end + 1..text.len()]))
+}
+
+// The place of the byte that ends the first line.
+fn line_end(text: &[u8], line: usize) -> Result<usize, CutFault>
+    ensures { λ r. ⌜ Cases r (λ e. First-at line-end (now (text .entry)) e × (e ≤ line-limit)) (λ e. Endless (now (text .entry)) line e) ⌝ }
+{
     for (end, byte) in text.iter().enumerate() {
         if *byte == LINE_END {
-            return Ok((&text[0..end], &text[end + 1..text.len()]));
+            return Ok(end);
         }
         if end >= LINE_LIMIT {
             return Err(CutFault::TooLong { line });

@@ -2,51 +2,63 @@
 ghost use mathlib.Core.Path.{_≡_};
 ghost use mathlib.Core.List.{_∷_};
 ghost use Prim.Native.Nat.{_-_, _≤_};
+ghost use lib.ListN.{length};
+ghost use Rattle.std.specs.Options.{Cases};
 ghost use Rattle.std.specs.shelf.Text.{sameBytes};
-ghost use Rattle.job.specs.Text.{fields};
+ghost use Rattle.job.specs.Cutting.{Absent, First-at};
+ghost use Rattle.job.specs.Text.{comma, fields};
 ghost use Rattle.job.specs.Number.{digit, number};
 ghost use Rattle.job.specs.Kind.{one, two, three};
-ghost use Rattle.job.specs.Shown.{seen, seen-two, seen-three, fields-left};
+ghost use Rattle.job.specs.Inside.{seen, seen-two, seen-three, fields-left};
 
 // The byte that parts the fields.
 const COMMA: u8 = b',';
+
+// The place of a line's first comma.
+fn first_comma(line: &[u8]) -> Option<usize>
+    ensures { λ r. ⌜ Cases r (Absent comma (now (line .entry)) (length (now (line .entry)))) (λ e. First-at comma (now (line .entry)) e) ⌝ }
+{
+    for (end, byte) in line.iter().enumerate() {
+        if *byte == COMMA {
+            return Some(end);
+        }
+    }
+    None
+}
 
 // The first field of a line, and what comes after its comma.
 pub(crate) fn first_field<'a>(line: &'a [u8]) -> (&'a [u8], Option<&'a [u8]>)
     ensures { λ r. ⌜ fields (now (line .entry)) ≡ now (r .0) ∷ fields-left (r .1) ⌝ }
 {
-    for (end, byte) in line.iter().enumerate() {
-        if *byte == COMMA {
-            return (&line[0..end], Some(&line[end + 1..line.len()]));
-        }
-    }
-    (line, None)
-}
-
-// The one field that is left, if it is just one; so with two and three.
-pub(crate) fn one_field<'a>(rest: Option<&'a [u8]>) -> Option<&'a [u8]>
-    ensures { λ r. ⌜ seen r ≡ one (fields-left (rest .entry)) ⌝ }
-{
-    let (field, more) = first_field(rest?);
-    match more {
-        None => Some(field),
-        Some(_) => None,
+    match first_comma(line) {
+        Some(end) => (&line[0..end], Some(&line[end + 1..line.len()])),
+        None => (line, None),
     }
 }
 
-pub(crate) fn two_fields<'a>(rest: Option<&'a [u8]>) -> Option<(&'a [u8], &'a [u8])>
-    ensures { λ r. ⌜ seen-two r ≡ two (fields-left (rest .entry)) ⌝ }
+// The one field of what is left of a line, if it is just one; so with two and three.
+pub(crate) fn one_field<'a>(rest: &'a [u8]) -> Option<&'a [u8]>
+    ensures { λ r. ⌜ seen r ≡ one (fields (now (rest .entry))) ⌝ }
 {
-    let (field, more) = first_field(rest?);
-    let last = one_field(more)?;
+    match first_field(rest) {
+        (field, None) => Some(field),
+        (_, Some(_)) => None,
+    }
+}
+
+pub(crate) fn two_fields<'a>(rest: &'a [u8]) -> Option<(&'a [u8], &'a [u8])>
+    ensures { λ r. ⌜ seen-two r ≡ two (fields (now (rest .entry))) ⌝ }
+{
+    let (field, more) = first_field(rest);
+    let last = one_field(more?)?;
     Some((field, last))
 }
 
-pub(crate) fn three_fields<'a>(rest: Option<&'a [u8]>) -> Option<(&'a [u8], &'a [u8], &'a [u8])>
-    ensures { λ r. ⌜ seen-three r ≡ three (fields-left (rest .entry)) ⌝ }
+pub(crate) fn three_fields<'a>(rest: &'a [u8]) -> Option<(&'a [u8], &'a [u8], &'a [u8])>
+    ensures { λ r. ⌜ seen-three r ≡ three (fields (now (rest .entry))) ⌝ }
 {
-    let (field, more) = first_field(rest?);
-    let (middle, last) = two_fields(more)?;
+    let (field, more) = first_field(rest);
+    let (middle, last) = two_fields(more?)?;
     Some((field, middle, last))
 }
 

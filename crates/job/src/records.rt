@@ -3,13 +3,13 @@ ghost use mathlib.Core.Path.{_≡_};
 ghost use Prim.Native.Nat.{_+_};
 ghost use Rattle.std.specs.Results.{Cases};
 ghost use Rattle.std.specs.declared.option.Option.the-variants.{Some, None};
-ghost use Rattle.job.specs.declared.faults.CutFault.{CutFault as CutWhy};
-ghost use Rattle.job.specs.declared.faults.RecordFault.the-variants.{Cut, NotNumber, UnknownWord};
+ghost use Rattle.job.specs.declared.faults.RecordFault.the-variants.{NotNumber, UnknownWord};
+ghost use Rattle.job.specs.Text.{fields};
 ghost use Rattle.job.specs.Number.{number};
 ghost use Rattle.job.specs.Kind.{keyword, duty-kind, kind, made};
 ghost use Rattle.job.specs.Reading.{duty-word};
-ghost use Rattle.job.specs.Cutting.{Uncut};
-ghost use Rattle.job.specs.Shown.{fields-left, shown-line, Handed};
+ghost use Rattle.job.specs.Cutting.{Uncut-record};
+ghost use Rattle.job.specs.Inside.{shown-line, Handed};
 use crate::cutter::Cutter;
 use crate::faults::RecordFault;
 use crate::faults::RecordFromCut;
@@ -87,14 +87,14 @@ fn first_word(field: &[u8]) -> Option<Keyword>
 }
 
 // The fields after the keyword `duty`: its word, and the bound if there is one.
-fn duty_line<'a>(rest: Option<&'a [u8]>) -> Option<Line<'a>>
-    ensures { λ r. ⌜ made shown-line r ≡ duty-kind (fields-left (rest .entry)) ⌝ }
+fn duty_line<'a>(rest: &'a [u8]) -> Option<Line<'a>>
+    ensures { λ r. ⌜ made shown-line r ≡ duty-kind (fields (now (rest .entry))) ⌝ }
 {
-    let (word, more) = first_field(rest?);
+    let (word, more) = first_field(rest);
     match more {
         None => Some(Line::Duty { word, bound: None }),
-        Some(_) => {
-            let bound = one_field(more)?;
+        Some(last) => {
+            let bound = one_field(last)?;
             Some(Line::Duty {
                 word,
                 bound: Some(bound),
@@ -107,8 +107,10 @@ fn duty_line<'a>(rest: Option<&'a [u8]>) -> Option<Line<'a>>
 fn line_kind<'a>(line: &'a [u8]) -> Option<Line<'a>>
     ensures { λ r. ⌜ made shown-line r ≡ kind (now (line .entry)) ⌝ }
 {
-    let (word, rest) = first_field(line);
-    match first_word(word)? {
+    let (word, more) = first_field(line);
+    let keyword = first_word(word)?;
+    let rest = more?;
+    match keyword {
         Keyword::Duty => duty_line(rest),
         Keyword::Site => {
             let count = one_field(rest)?;
@@ -139,7 +141,7 @@ pub(crate) fn next_line<'a>(
 ) -> Result<Option<Option<Line<'a>>>, RecordFault>
     ensures { λ r. ⌜ Cases r
         (λ o. Handed (now (cutter .entry)) o (now (cutter .exit)))
-        (λ e. ((f : CutWhy) × (e ≡ Cut f) × Uncut (now (now (cutter .entry) .rest)) (now (cutter .entry) .line + 1) f) × (now (cutter .exit) ≡ now (cutter .entry))) ⌝ }
+        (λ e. Uncut-record (now (now (cutter .entry) .rest)) (now (cutter .entry) .line + 1) e × (now (cutter .exit) ≡ now (cutter .entry))) ⌝ }
 {
     match cutter.next()? {
         Some(line) => Ok(Some(line_kind(line))),

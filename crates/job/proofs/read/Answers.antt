@@ -1,3 +1,4 @@
+-- The law of the outcome, at the answer.
 use mathlib.Core.Path.{_∙_, sym, subst}
 use Rattle.job.specs.Laws.{Read-law}
 use Rattle.job.specs.Reading.{Outcome}

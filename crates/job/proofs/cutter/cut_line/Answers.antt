@@ -1,24 +1,16 @@
-use mathlib.Core.Path.{refl, _∙_}
+-- A line is what stands before its end.
 use native.Mathlib.Omega.{arith}
 use lib.ListN.{length-take, length-drop}
-use Rattle.job.proofs.Plains.{lines-hit, lines-more, lines-long, lines-torn}
+use Rattle.std.proofs.shelf.Results.{err-from-errBy}
+use Rattle.job.proofs.Places.{cut-at, uncut}
 use Rattle.job.proofs.cutter.cut_line.Needs as need
 
-pub returns-then-byte-eq-LINE-END : need.returns-then-byte-eq-LINE-END
-returns-then-byte-eq-LINE-END c = (
-  c .loop-end .inv .1 ∙ lines-hit (c .args .text .now) (c .loop-end .end) (c .loop-end-test .taken) (c .if-byte-eq-LINE-END .taken),
-  simp (length-take, length-drop) (omega arith),
-)
-
-pub returns-then-end-ge-LINE-LIMIT : need.returns-then-end-ge-LINE-LIMIT
-returns-then-end-ge-LINE-LIMIT c =
-    (c .loop-end .inv .1 ∙ lines-long (c .args .text .now) (c .loop-end .end) (c .loop-end-test .taken) (c .if-byte-eq-LINE-END .left) (c .if-end-ge-LINE-LIMIT .taken), refl)
-
-pub loop-end-again : need.loop-end-again
-loop-end-again c = (
-  omega arith,
-  c .loop-end .inv .1 ∙ lines-more (c .args .text .now) (c .loop-end .end) (c .loop-end-test .taken) (c .if-byte-eq-LINE-END .left) (c .if-end-ge-LINE-LIMIT .left),
-)
+pub returns-in-Break-end : need.returns-in-Break-end
+returns-in-Break-end c =
+    let p = err-from-errBy (c .from-residual .result) (c .from-residual .ensures .1) in
+    rw (p .1, p .2) (uncut (c .args .text .now) (c .args .line) (c .in-Break-end .field-0 .0) (c .pre) (c .in-Break-end .ensures tt))
 
 pub returns : need.returns
-returns c = (c .loop-end .inv .1 ∙ lines-torn (c .args .text .now) (c .loop-end .end) (c .pre) (c .loop-end-test .left), refl)
+returns c =
+    let h = c .in-Continue-end .ensures tt in
+    (cut-at (c .args .text .now) (c .in-Continue-end .end) (h .0) (h .1), simp (length-take, length-drop) (omega (arith, h .0 .0)))

@@ -1,15 +1,9 @@
-use mathlib.Core.Path.{sym, ap, _∙_}
-use Rattle.std.proofs.shelf.Lists.{take-all}
-use Rattle.job.proofs.Plains.{plain, plain-fields, plain-more, fields-at}
+-- A field is what stands before its comma.
+use Rattle.job.proofs.Places.{fields-at, fields-one}
 use Rattle.job.proofs.fields.first_field.Needs as need
 
-pub returns-then-byte-eq-COMMA : need.returns-then-byte-eq-COMMA
-returns-then-byte-eq-COMMA c = fields-at (c .args .line .now) (c .loop-end .end) (c .loop-end-test .taken) (c .loop-end .inv) (c .if-byte-eq-COMMA .taken)
+pub returns-in-Some : need.returns-in-Some
+returns-in-Some c = fields-at (c .args .line .now) (c .in-Some .end) (c .in-Some .ensures tt)
 
-pub loop-end-again : need.loop-end-again
-loop-end-again c = plain-more (c .args .line .now) (c .loop-end .end) (c .loop-end-test .taken) (c .loop-end .inv) (c .if-byte-eq-COMMA .left)
-
-pub returns : need.returns
-returns c =
-    let s = c .args .line .now in
-    plain-fields s (ap plain (sym (take-all (c .loop-end .end) s (c .loop-end-test .left))) ∙ c .loop-end .inv)
+pub returns-in-None : need.returns-in-None
+returns-in-None c = fields-one (c .args .line .now) (c .in-None .ensures tt)

@@ -1,3 +1,4 @@
+-- `==` on slices answers the same as the test of the specification.
 use borrow.Author.Needs.{needs}
 use Rattle.std.proofs.shelf.Equals.{matches-decides, sameBytes-decides}
 use Rattle.job.proofs.fields.is_word.Needs as need

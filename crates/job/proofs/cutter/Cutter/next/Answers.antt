@@ -1,3 +1,4 @@
+-- An empty text has no line.
 use mathlib.Core.Path.{refl}
 use Rattle.job.proofs.Words.{ended}
 use Rattle.job.proofs.cutter.Cutter.next.Needs as need

@@ -1,3 +1,4 @@
+-- A line leads on as the ruling of its kind has it.
 use mathlib.Core.Path.{sym, ap, subst, _∙_}
 use Prim.Native.Nat.{_<_}
 use lib.ListN.{length}
@@ -6,7 +7,7 @@ use Rattle.job.specs.declared.cutter.Cutter.{Cutter}
 use Rattle.job.specs.declared.faults.JobFault.{JobFault}
 use Rattle.job.specs.declared.reader.Reader.{Reader}
 use Rattle.job.specs.Reading.{next, unfit, fault}
-use Rattle.job.specs.Shown.{state-of}
+use Rattle.job.specs.Inside.{state-of}
 use Rattle.job.proofs.Steps.{onward, handed, shorter}
 use Rattle.job.proofs.reader.Reader.step.Needs as need
 
