@@ -6,6 +6,7 @@ ghost use Rattle.game.specs.Parity.{is-odd, Tells-odd};
 ghost use Rattle.game.specs.Sides.{side-of};
 ghost use Rattle.game.specs.Graph.{Graph, Fit, target};
 ghost use Rattle.game.specs.Rule.{Rule, Lawful};
+ghost use Rattle.game.specs.Rounds.{positions};
 ghost use Rattle.game.specs.Refusals.{refusal-number};
 ghost use Rattle.game.specs.Laws.{Laws, Same-tables};
 
@@ -118,6 +119,13 @@ pub trait Duty {
     // The next code, or None where the step says broken.
     fn step(&self, c: u8, m: u8) -> Option<u8>
         ensures { λ r. ⌜ r ≡ rule (now (self .entry)) .step c m ⌝ };
+}
+
+// How many positions there are: places times codes, at most 31,872.
+pub fn position_count<M: Map, D: Duty>(map: &M, duty: &D) -> u16
+    ensures { λ r. ⌜ r ≡ positions (graph (now (map .entry))) (rule (now (duty .entry))) ⌝ }
+{
+    map.size() as u16 * duty.codes() as u16
 }
 
 // The laws of rounds, tables, the check and shifts hold for this map and duty.

@@ -46,7 +46,9 @@ impl<'a> Cutter<'a> {
         ensures { λ r. ⌜ Cases r
             (λ o. BySome o
             (Ended (now (now (self .entry) .rest)) × (now (self .exit) ≡ now (self .entry)))
-            (λ l. Cut-off (now (now (self .entry) .rest)) (now l) (now (now (self .exit) .rest)) × (now (self .exit) .line ≡ now (self .entry) .line + 1) × (length (now (now (self .exit) .rest)) < length (now (now (self .entry) .rest)))))
+            (λ l. Cut-off (now (now (self .entry) .rest)) (now l) (now (now (self .exit) .rest))
+            × (now (self .exit) .line ≡ now (self .entry) .line + 1)
+            × (length (now (now (self .exit) .rest)) < length (now (now (self .entry) .rest)))))
             (λ e. Uncut (now (now (self .entry) .rest)) (now (self .entry) .line + 1) e × (now (self .exit) ≡ now (self .entry))) ⌝ }
     {
         if self.rest.is_empty() {

@@ -74,7 +74,9 @@ impl<'a> Reader<'a> {
 
     // Takes a line if its kind is due.
     fn take(&mut self, line: Option<Line<'a>>) -> Result<(), JobFault>
-        ensures { λ r. ⌜ Taken (judged (now (self .entry) .cutter .line) (state-of (now (self .entry) .phase)) (made shown-line (line .entry))) (now (self .entry)) r (now (self .exit)) ⌝ }
+        ensures { λ r. ⌜ Taken
+            (judged (now (self .entry) .cutter .line) (state-of (now (self .entry) .phase)) (made shown-line (line .entry)))
+            (now (self .entry)) r (now (self .exit)) ⌝ }
     {
         match (&self.phase, line) {
             (Phase::Duty, Some(Line::Duty { word, bound })) => self.take_duty(word, bound),
@@ -89,7 +91,9 @@ impl<'a> Reader<'a> {
     }
 
     fn take_duty(&mut self, word: &[u8], bound: Option<&[u8]>) -> Result<(), JobFault>
-        ensures { λ r. ⌜ Taken (ruled (now (self .entry) .cutter .line) due-duty (duty-line (now (word .entry)) (seen (bound .entry)))) (now (self .entry)) r (now (self .exit)) ⌝ }
+        ensures { λ r. ⌜ Taken
+            (ruled (now (self .entry) .cutter .line) due-duty (duty-line (now (word .entry)) (seen (bound .entry))))
+            (now (self .entry)) r (now (self .exit)) ⌝ }
     {
         let duty = duty_record(word, bound, self.cutter.line())?;
         self.phase = Phase::Map { duty };
@@ -97,7 +101,9 @@ impl<'a> Reader<'a> {
     }
 
     fn take_queue(&mut self, duty: Window, capacity: &[u8]) -> Result<(), JobFault>
-        ensures { λ r. ⌜ Taken (ruled (now (self .entry) .cutter .line) (due-map (shown-duty duty)) (queue-line (now (capacity .entry)))) (now (self .entry)) r (now (self .exit)) ⌝ }
+        ensures { λ r. ⌜ Taken
+            (ruled (now (self .entry) .cutter .line) (due-map (shown-duty duty)) (queue-line (now (capacity .entry))))
+            (now (self .entry)) r (now (self .exit)) ⌝ }
     {
         let map = queue_record(capacity, self.cutter.line())?;
         self.phase = Phase::Close { duty, map };
@@ -132,7 +138,8 @@ fn small_number(text: &[u8], line: usize, field: u8) -> Result<u8, JobFault>
 
 // A duty's fields. The limits of its bound are the duty's own.
 fn duty_record(word: &[u8], bound: Option<&[u8]>, line: usize) -> Result<Window, JobFault>
-    ensures { λ r. ⌜ worded line 2 (duty-word (now (word .entry))) (bounded line (seen (bound .entry))) ≡ goes r (λ w. next (due-map (shown-duty w))) ⌝ }
+    ensures { λ r. ⌜ worded line 2 (duty-word (now (word .entry))) (bounded line (seen (bound .entry)))
+        ≡ goes r (λ w. next (due-map (shown-duty w))) ⌝ }
 {
     let DutyWord::Window = duty_word(word, line, 2)?;
     let number = match bound {

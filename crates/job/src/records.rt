@@ -151,7 +151,9 @@ pub(crate) fn next_line<'a>(
 
 // The number in a field.
 pub(crate) fn numeral(text: &[u8], line: usize, field: u8) -> Result<u16, RecordFault>
-    ensures { λ r. ⌜ Cases r (λ n. number (now (text .entry)) ≡ Some n) (λ e. (number (now (text .entry)) ≡ None) × (e ≡ NotNumber line field)) ⌝ }
+    ensures { λ r. ⌜ Cases r
+        (λ n. number (now (text .entry)) ≡ Some n)
+        (λ e. (number (now (text .entry)) ≡ None) × (e ≡ NotNumber line field)) ⌝ }
 {
     match read_number(text) {
         Some(n) => Ok(n),
@@ -161,7 +163,9 @@ pub(crate) fn numeral(text: &[u8], line: usize, field: u8) -> Result<u16, Record
 
 // The duty's word.
 pub(crate) fn duty_word(text: &[u8], line: usize, field: u8) -> Result<DutyWord, RecordFault>
-    ensures { λ r. ⌜ Cases r (λ w. duty-word (now (text .entry)) ≡ Some w) (λ e. (duty-word (now (text .entry)) ≡ None) × (e ≡ UnknownWord line field)) ⌝ }
+    ensures { λ r. ⌜ Cases r
+        (λ w. duty-word (now (text .entry)) ≡ Some w)
+        (λ e. (duty-word (now (text .entry)) ≡ None) × (e ≡ UnknownWord line field)) ⌝ }
 {
     if is_word(text, b"window") {
         Ok(DutyWord::Window)

@@ -16,6 +16,7 @@ use game::Duty;
 use game::Map;
 use game::Refusal;
 use game::Side;
+use game::position_count;
 
 // The bytes that a space has to have, so that every listing fits.
 pub const SPACE: usize = 4096;
@@ -216,7 +217,7 @@ pub fn write_listing<M: Map, D: Duty>(
         (Listed (M·Map .graph (now (map .entry))) (D·Duty .rule (now (duty .entry))) (now (count .entry)) (now (space .entry)) (now (space .exit)))
         (Refused (M·Map .graph (now (map .entry))) (D·Duty .rule (now (duty .entry))) (now (count .entry)) (now (space .entry)) (now (space .exit))) ⌝ }
 {
-    if count.len() < map.size() as usize * duty.codes() as usize {
+    if count.len() < position_count(map, duty) as usize {
         return Err(Refusal::Short);
     }
     if space.len() < SPACE {

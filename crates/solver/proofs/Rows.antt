@@ -6,7 +6,7 @@ use Prim.Native.Nat.{ℕ, _+_, _-_, _*_, _≤_, _<_}
 use native.Mathlib.Nat.{mul-le-mul-right, le-add-right}
 use native.Mathlib.Omega.{arith}
 use borrow.Rule.Slice.PartMut.{putMid, postOf, midOf, post-is, mid-len, same-len-mid, put-same}
-use lib.ListN.{length, getD, take, drop, length-append, length-drop}
+use lib.ListN.{length, getD, take, drop, length-drop}
 use lib.Seq.{getD-take, getD-drop, length-take-le}
 use Rattle.std.proofs.shelf.Lists.{getD-append-left, getD-append-right, ext-getD}
 use Rattle.std.proofs.shelf.Tests.{cases-lt}
@@ -82,22 +82,6 @@ rows-more v s P before now ys f fits kept told =
           subst (λ (u : ℕ). P u c (entry s (putMid a (a + s - a) now ys) u c)) is (subst (P v c) (sym (put-at a (a + s) now ys fwd fits same c (omega arith))) (told c lc)))
           (cases-lt w v);
     }
-
--- a part of the first k, written and put back, where k is n
-module _ (k n : ℕ) (part xs : List ℕ) (is : k ≡ n) (within : n ≤ length xs) (kept : length part ≡ length (take k xs)) where
-  pub start-long : length part ≡ n
-  start-long = kept ∙ length-take-le k xs (omega arith) ∙ is
-
-  pub start-at : (j : ℕ) → j < n → getD (part ++ drop k xs) j 0 ≡ getD part j 0
-  start-at j h = getD-append-left part (drop k xs) 0 j (omega (arith, start-long))
-
-  pub start-tail : Tail n xs (part ++ drop k xs)
-  start-tail = record {
-    long = length-append part (drop k xs) ∙ omega (arith, start-long, length-drop k xs);
-    beyond = λ j h.
-        let i : k + (j - k) ≡ j = omega arith in
-        getD-append-right part (drop k xs) k j 0 (start-long ∙ sym is) (omega arith) ∙ getD-drop k xs (j - k) 0 ∙ ap (λ (m : ℕ). getD xs m 0) i;
-  }
 
 -- a due entry of a part is one of the whole
 pub due-part : (v s : ℕ) (flags xs count : List ℕ) → ((j : ℕ) → v * s ≤ j → getD xs j 0 ≡ getD count j 0) → Due (midOf (v * s) (v * s + s - v * s) flags) (midOf (v * s) (v * s + s - v * s) xs) s → Due-rows s flags count (v + 1)

@@ -13,6 +13,7 @@ use crate::moving::some_counted;
 use game::Duty;
 use game::Map;
 use game::Side;
+use game::position_count;
 
 // Whether place v gets a count from the counts where its moves lead, at code e.
 fn attracts<M: Map>(map: &M, s: u8, count: &[u16], v: u8, e: u8) -> bool
@@ -126,12 +127,14 @@ fn count_round<M: Map, D: Duty>(
     settle_rows(map.size(), duty.codes(), done + 1, plan, count)
 }
 
-// No entry has a count.
-fn clear(part: &mut [u16])
-    ensures { λ _. ⌜ ((k : ℕ) → k < length (now (part .entry)) → getD (now (part .exit)) k 0 ≡ 0) ⌝ }
+// Takes the counts off the first n entries.
+fn clear(count: &mut [u16], n: u16)
+    requires { ⌜ n ≤ length (now count) ⌝ }
+    ensures none { λ _. ⌜ ((k : ℕ) → k < n → getD (now (count .exit)) k 0 ≡ 0) ⌝ }
+    ensures rest { λ _. ⌜ Tail n (now (count .entry)) (now (count .exit)) ⌝ }
 {
-    for k in 0..part.len() {
-        part[k] = 0;
+    for k in 0..n as usize {
+        count[k] = 0;
     }
 }
 
@@ -145,8 +148,8 @@ pub(crate) fn count_all<M: Map, D: Duty>(map: &M, duty: &D, plan: &mut [u8], cou
     ensures counts { λ _. ⌜ Tail (positions (M·Map .graph (now (map .entry))) (D·Duty .rule (now (duty .entry))))
         (now (count .entry)) (now (count .exit)) ⌝ }
 {
-    let most = map.size() as u16 * duty.codes() as u16;
-    clear(&mut count[..most as usize]);
+    let most = position_count(map, duty);
+    clear(count, most);
     for done in 0..most {
         if !count_round(map, duty, done, plan, count) {
             return;

@@ -12,6 +12,7 @@ use counting::count_all;
 use game::Duty;
 use game::Map;
 use game::Refusal;
+use game::position_count;
 use planning::plan_all;
 
 // Fills a plan byte and a count for each position, or refuses for want of room and changes nothing.
@@ -27,7 +28,7 @@ pub fn solve<M: Map, D: Duty>(
         (λ e. (e ≡ Short) × Short-of (M·Map .graph (now (map .entry))) (D·Duty .rule (now (duty .entry)))
         (now (plan .entry)) (now (count .entry)) (now (plan .exit)) (now (count .exit))) ⌝ }
 {
-    let most = map.size() as usize * duty.codes() as usize;
+    let most = position_count(map, duty) as usize;
     if plan.len() < most || count.len() < most {
         return Err(Refusal::Short);
     }

@@ -1,6 +1,4 @@
-use mathlib.Core.Path.{_≡_}
 use mathlib.Core.List.{[]}
-use Prim.Native.Nat.{_*_}
 use native.Mathlib.Omega.{arith}
 use Rattle.game.specs.Table.{Solved}
 use Rattle.game.proofs.Verdicts.{solved-verdict}
@@ -13,7 +11,6 @@ pub returns : need.returns
 returns g c =
     let G = g .M·Map .graph (c .args .map .now) in
     let D = g .D·Duty .rule (c .args .duty .now) in
-    let e : c .size .result * c .codes .result ≡ G .size * D .codes = λ j. c .size .ensures j * c .codes .ensures j in
     let p = c .plan-all .last .plan in
     let n = c .count-all .last .count in
     let solved : Solved G D (table p n) = record {
@@ -23,7 +20,7 @@ returns g c =
     let plans = tail-join _ _ _ _ (c .count-all .ensures .plans) (c .plan-all .ensures .tail) in
     let counts = c .count-all .ensures .counts in
     record {
-      room = record { plans = omega (arith, e, c .if-plan-most .left); counts = omega (arith, e, c .if-count-most .left) };
+      room = record { plans = omega (arith, c .position-count-most .ensures, c .if-plan-most .left); counts = omega (arith, c .position-count-most .ensures, c .if-count-most .left) };
       solved = solved;
       verdicts = λ v lv. solved-verdict G D (table p n) (g .M·Map .fit (c .args .map .now)) (g .D·Duty .lawful (c .args .duty .now)) solved v lv;
       plan-long = plans .long;

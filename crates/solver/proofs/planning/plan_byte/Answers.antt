@@ -8,7 +8,7 @@ use Rattle.std.specs.declared.option.Option.the-variants.{Some}
 use Rattle.game.specs.Graph.{moves}
 use Rattle.game.specs.Table.{entry}
 use Rattle.game.proofs.Sides.{house-side, guest-side}
-use Rattle.solver.specs.Moves.{First, Least, ahead}
+use Rattle.solver.specs.Moves.{Within, First, Least, ahead}
 use Rattle.solver.proofs.Entries.{entry-in}
 use Rattle.solver.proofs.Moves.{step-told, within-told}
 use Rattle.solver.proofs.Plans.{planned-house, planned-guest}
@@ -16,6 +16,7 @@ use Rattle.solver.proofs.planning.plan_byte.Given as given
 use Rattle.solver.proofs.planning.plan_byte.Needs as need
 use Rattle.solver.proofs.planning.plan_byte.Needs.{In-Some}
 
+-- the step answered e
 stepped : (g : given.Over) (c : In-Some g) → g .D·Duty .rule (c .args .duty .now) .step (c .args .c) (g .M·Map .graph (c .args .map .now) .mark (c .args .v)) ≡ Some (c .in-Some .e)
 stepped g c = step-told (g .D·Duty .rule (c .args .duty .now)) (c .args .c) _ _ _ (c .mark .ensures) (c .in-Some .ensures tt)
 
@@ -24,15 +25,17 @@ index-count-v g c =
     let same = c .codes-s .ensures in
     entry-in (g .M·Map .graph (c .args .map .now) .size) (c .codes-s .result) (c .args .v) (c .args .c) (length (c .args .count .now)) (c .pre .on) (omega arith) (simp same (c .pre .room))
 
-pub first-move-requires : need.first-move-requires
-first-move-requires g c κs =
+-- what a search among the moves asks
+asks : (g : given.Over) (c : In-Some g) → Within (g .M·Map .graph (c .args .map .now)) (c .codes-s .result) (c .args .count .now) (c .args .v) (c .in-Some .e)
+asks g c =
     within-told (g .M·Map .graph (c .args .map .now)) (g .D·Duty .rule (c .args .duty .now)) (g .D·Duty .lawful (c .args .duty .now)) (c .args .count .now) _ _ (c .args .c) _ _
-    (c .codes-s .ensures) (stepped g (need.at·first-move-requires g c .In-Some)) (c .pre .on) (c .pre .room)
+    (c .codes-s .ensures) (stepped g c) (c .pre .on) (c .pre .room)
+
+pub first-move-requires : need.first-move-requires
+first-move-requires g c κs = asks g (need.at·first-move-requires g c .In-Some)
 
 pub least-move-requires : need.least-move-requires
-least-move-requires g c κs =
-    within-told (g .M·Map .graph (c .args .map .now)) (g .D·Duty .rule (c .args .duty .now)) (g .D·Duty .lawful (c .args .duty .now)) (c .args .count .now) _ _ (c .args .c) _ _
-    (c .codes-s .ensures) (stepped g (need.at·least-move-requires g c .In-Some)) (c .pre .on) (c .pre .room)
+least-move-requires g c κs = asks g (need.at·least-move-requires g c .In-Some)
 
 pub returns-in-House : need.returns-in-House
 returns-in-House g c =
