@@ -70,10 +70,6 @@ module _ (g : Graph) (d : Rule) where
   unfolding row
   row-grows r v = total-le _ _ (d .codes) (λ c l. cell-grows r v c)
 
-  tally-grows : (r : ℕ) → tally r ≤ tally (suc r)
-  unfolding tally
-  tally-grows r = total-le (row r) (row (suc r)) (g .size) (λ v l. row-grows r v)
-
   tally-bound : (r : ℕ) → tally r ≤ positions g d
   unfolding tally row
   tally-bound r =

@@ -18,9 +18,6 @@ module _ (g : Graph) (s : ℕ) (count : List ℕ) (v e : ℕ) where
   abbrev at : ℕ → ℕ
   at k = ahead g s count v e k
 
-  pub best-none : (b : ℕ) → Best g s count v e 0 b 0
-  best-none b = record { none = λ z j l. absurd (omega arith); some = λ h. absurd (omega arith); low-is = λ h. absurd (omega arith) }
-
   pub best-new : (k best low n : ℕ) → n ≡ at k → (0 < n) × (0 < low → n < low) → Best g s count v e k best low → Best g s count v e (k + 1) k n
   best-new k best low n is won b = record {
     none = λ z j l. absurd (omega (arith, won .0));

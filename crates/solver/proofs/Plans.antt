@@ -3,11 +3,11 @@ use mathlib.Core.Path.{_≡_, refl, sym, subst, _∙_}
 use mathlib.Core.Bool.{true, false}
 use mathlib.Core.Logic.{⊎-elim}
 use mathlib.Core.List.{List}
-use Prim.Native.Nat.{ℕ, zero, suc, _*_, _<_, _≤_}
+use Prim.Native.Nat.{ℕ, zero, suc, _*_, _<_}
 use native.Mathlib.Omega.{arith}
 use lib.ListN.{length, getD}
 use Rattle.std.specs.declared.option.Option.{Option}
-use Rattle.std.specs.declared.option.Option.the-variants.{Some, None}
+use Rattle.std.specs.declared.option.Option.the-variants.{Some}
 use Rattle.std.proofs.shelf.Tests.{both-ways, cases-lt}
 use Rattle.game.specs.Graph.{Graph, Fit, moves}
 use Rattle.game.specs.Rule.{Rule, Lawful}
@@ -26,9 +26,6 @@ planned-by g d p q count v c b h = record { holds = h .holds; attacks = h .attac
 pub same-answer : (o : Option ℕ) (e f : ℕ) → o ≡ Some e → o ≡ Some f → e ≡ f
 same-answer o e f p q = cc
 
-pub no-answer : (o : Option ℕ) (e : ℕ) → o ≡ None → o ≡ Some e → ⊥
-no-answer o e p q = let z : _≡_ {A = ℕ} 0 1 = cc in omega arith
-
 module _ (g : Graph) (d : Rule) (fit : Fit g) (lawful : Lawful d) (p count : List ℕ) (counts : (v c : ℕ) → v < g .size → c < d .codes → entry (d .codes) count v c ≡ rounds g d v c) (v c : ℕ) (lv : v < g .size) (lc : c < d .codes) where
   abbrev end : ℕ
   end = g .size * d .codes
@@ -38,15 +35,6 @@ module _ (g : Graph) (d : Rule) (fit : Fit g) (lawful : Lawful d) (p count : Lis
 
   abbrev here : ℕ
   here = entry (d .codes) count v c
-
-  -- a broken step: the count is 1
-  pub planned-none : d .step c (g .mark v) ≡ None → here ≤ 1 → Planned g d T v c 8
-  planned-none is low = record {
-    holds = λ e step. absurd (no-answer _ e is step);
-    attacks = λ e step. absurd (no-answer _ e is step);
-    waits-house = λ house some. refl;
-    waits-guest = λ guest l. refl;
-  }
 
   pub planned-house : (e k : ℕ) → d .step c (g .mark v) ≡ Some e → g .house v ≡ true → here ≡ 0 → First g (d .codes) count v e false k → Planned g d T v c k
   planned-house e k step house z f =

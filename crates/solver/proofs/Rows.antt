@@ -56,9 +56,6 @@ tail-drop k xs ys t =
     (length-drop k ys ∙ ap (λ (n : ℕ). n - k) (t .long) ∙ sym (length-drop k xs))
     (λ i h. getD-drop k ys i 0 ∙ t .beyond (k + i) (omega arith) ∙ sym (getD-drop k xs i 0))
 
-pub rows-none : (s : ℕ) (P : ℕ → ℕ → ℕ → Type 0) (xs : List ℕ) → Rows 0 s P xs xs
-rows-none s P xs = record { tail = tail-none (0 * s) xs; inside = λ v c lv lc. absurd (omega arith) }
-
 -- v rows are filled, and the next one is written
 pub rows-more : (v s : ℕ) (P : ℕ → ℕ → ℕ → Type 0) (before now ys : List ℕ) → Rows v s P before now → v * s + s ≤ length now → length ys ≡ length (midOf (v * s) ((v * s + s) - v * s) now) → ((c : ℕ) → c < s → P v c (getD ys c 0)) → Rows (v + 1) s P before (putMid (v * s) ((v * s + s) - v * s) now ys)
 rows-more v s P before now ys f fits kept told =
