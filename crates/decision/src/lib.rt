@@ -1,4 +1,6 @@
 // From a job text to its listing: reads the job, solves its game and writes who is given each place.
+#![tactic(auto)]
+
 ghost use Rattle.std.specs.Prelude.{◌≡◌, ◌≤◌, length, Some, MatchResult};
 ghost use Rattle.decision.specs.declared.Declined.TheVariants.{Text, Call};
 ghost use Rattle.decision.specs.Deciding.{Lists, LacksSpace, Decides, Declines, number_of, line_of, field_of, refused_line};
@@ -93,7 +95,7 @@ fn list_game<M: Map, D: Duty>(
     requires plans { 31872 ≤ length plan.old }
     requires counts { 31872 ≤ length count.old }
     ensures { MatchResult result
-        (Lists (M.Map.graph map.now) (D.Duty.rule duty.now) space.old space.new)
+        (Lists (M.graph map.now) (D.rule duty.now) space.old space.new)
         (LacksSpace space.old space.new) }
 {
     solve(map, duty, plan, count)?;

@@ -58,7 +58,10 @@ impl Window {
 
     // The code of an open window.
     fn code_at(&self, low: u8, count: u8) -> u8
-        requires { (1 ≤ low) × ((low ≤ 15) × ((1 ≤ count) × (count < self.now.bound))) }
+        requires lowest { 1 ≤ low }
+        requires highest { low ≤ 15 }
+        requires counted { 1 ≤ count }
+        requires open { count < self.now.bound }
         ensures { result ≡ code_at self.now.bound low count }
     {
         1 + (low - 1) / 2 * (self.bound - 1) + (count - 1)

@@ -1,10 +1,10 @@
 -- Walks as they grow: the marks seen by each place, their code, and what a plan's move is.
-use Rattle.std.proofs.Common.{◌≡◌, ℕ, zero, suc, ◌+◌, ◌-◌, ◌<◌, Bool, cond, ltb, ◌⊎◌, List, [], ◌∷◌, ◌++◌, map, length, get_or, take, Some, None, Option, sym, refl, ap, ◌∙◌, subst, inl, inr, ⊎_elim, le_of_suc-le-suc, add-one, arith, length-take-le, take_all, get_or-take, take-suc, take-take}
+use Rattle.std.proofs.Common.{◌≡◌, ℕ, zero, suc, ◌-◌, ◌<◌, Bool, cond, ltb, ◌⊎◌, List, [], ◌∷◌, ◌++◌, map, length, get_or, take, Some, None, Option, sym, refl, ap, ◌∙◌, subst, inl, inr, ⊎_elim, le_of_suc-le-suc, add-one, arith, length-take-le, take_all, get_or-take, take-suc, take-take}
 use Rattle.std.proofs.lemmas.List.{map_push}
 use Rattle.std.proofs.lemmas.Bool.{lt-ltb, le-ltb, cond-true, cond-false, cases_lt}
 use Rattle.game.specs.Graph.{Graph, Fit, moves}
 use Rattle.game.specs.Rule.{Rule, Lawful, Marks}
-use Rattle.game.specs.Walks.{Walk, Leads, Plan, Follows, first, last}
+use Rattle.game.specs.Walks.{Walk, Leads, Plan, Follows, last}
 use Rattle.game.proofs.Moves.{moves_inside}
 
 -- k where it is below n, else 0

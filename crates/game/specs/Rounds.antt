@@ -1,6 +1,6 @@
 -- Positions and the rounds that count them (ranks of the guest's attractor, over places times codes).
 -- The position (v, c) means standing on place v with code c from the marks before v.
-use Rattle.std.specs.Prelude.{◌≡◌, ℕ, zero, suc, ◌+◌, ◌*◌, ◌<◌, ◌≤◌, Bool, true, false, cond, not, ◌&&◌, ◌||◌, List, [], ◌∷◌, length, Some, None, Option, ◌==◌, slice_index}
+use Rattle.std.specs.Prelude.{◌≡◌, ℕ, zero, suc, ◌*◌, ◌<◌, ◌≤◌, Bool, true, false, cond, not, ◌&&◌, ◌||◌, List, [], ◌∷◌, length, Some, None, Option, ◌==◌, slice_index}
 use Rattle.game.specs.Graph.{Graph, moves}
 use Rattle.game.specs.Rule.{Rule}
 

@@ -1,5 +1,7 @@
 // What a map and a duty mean, the questions that each answers from its meaning alone, and the refusals of all calls.
 // The meanings and the rules of the game are in specs/, the theorems about them in proofs/.
+#![tactic(auto)]
+
 ghost use Rattle.std.specs.Prelude.{◌≡◌, length};
 ghost use Rattle.game.specs.Parity.{is_odd, TellsOdd};
 ghost use Rattle.game.specs.Sides.{side_of};
@@ -132,19 +134,19 @@ pub trait Duty {
 
 // How many positions there are: places times codes, at most 31,872.
 pub fn position_count<M: Map, D: Duty>(map: &M, duty: &D) -> u16
-    ensures { result ≡ positions (graph map.now) (rule duty.now) }
+    ensures { result ≡ positions (M.graph map.now) (D.rule duty.now) }
 {
     map.size() as u16 * duty.codes() as u16
 }
 
 // The laws of rounds, tables, the check and shifts hold for this map and duty.
 pub fn laws_hold<M: Map, D: Duty>(map: &M, duty: &D)
-    ensures { Laws (graph map.now) (rule duty.now) }
+    ensures { Laws (M.graph map.now) (D.rule duty.now) }
 {}
 
 // Where two maps and two duties mean the same game, their solved tables are the same.
 pub fn same_tables<M: Map, N: Map, D: Duty, E: Duty>(map: &M, duty: &D, other: &N, beside: &E)
     ensures { SameTables
-        (M.Map.graph map.now) (D.Duty.rule duty.now)
-        (N.Map.graph other.now) (E.Duty.rule beside.now) }
+        (M.graph map.now) (D.rule duty.now)
+        (N.graph other.now) (E.rule beside.now) }
 {}

@@ -1,4 +1,6 @@
 // Reads a job text: the cutter parts it into lines, the records tell their kinds, words and numbers, the reader makes the job.
+#![tactic(auto)]
+
 ghost use Rattle.std.specs.Prelude.{◌≡◌};
 ghost use Rattle.job.specs.Laws.{ReadLaw};
 ghost use Rattle.job.specs.Reading.{outcome};

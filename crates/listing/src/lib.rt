@@ -1,4 +1,6 @@
 // Writes the listing of a table into the caller's space: who is given each place, and how many the house is given.
+#![tactic(auto)]
+
 ghost use Rattle.std.specs.Prelude.{◌≡◌, ◌+◌, ◌*◌, ◌≤◌, [], map, length, if◌then◌else◌, decimal, MatchResult, nat_eq};
 ghost use Rattle.game.specs.Rounds.{positions};
 ghost use Rattle.game.specs.Table.{table, entry};
@@ -133,8 +135,8 @@ fn put_place(space: &mut [u8], at: usize, v: u8, count: u16) -> usize
 
 // A place's count: that of its position with the start code.
 fn place_count<D: Duty>(duty: &D, count: &[u16], v: u8) -> u16
-    requires { (v + 1) * (D.Duty.rule duty.now).codes ≤ length count.now }
-    ensures { result ≡ entry (D.Duty.rule duty.now).codes count.now v (D.Duty.rule duty.now).start }
+    requires { (v + 1) * (D.rule duty.now).codes ≤ length count.now }
+    ensures { result ≡ entry (D.rule duty.now).codes count.now v (D.rule duty.now).start }
 {
     count[v as usize * duty.codes() as usize + duty.start() as usize]
 }
@@ -148,9 +150,9 @@ fn one_if_house(count: u16) -> u8
 
 // How many places the house is given.
 fn count_houses<M: Map, D: Duty>(map: &M, duty: &D, count: &[u16]) -> u8
-    requires { positions (M.Map.graph map.now) (D.Duty.rule duty.now) ≤ length count.now }
-    ensures { result ≡ house_places (M.Map.graph map.now) (D.Duty.rule duty.now) (table [] count.now)
-        (M.Map.graph map.now).size }
+    requires { positions (M.graph map.now) (D.rule duty.now) ≤ length count.now }
+    ensures { result ≡ house_places (M.graph map.now) (D.rule duty.now) (table [] count.now)
+        (M.graph map.now).size }
 {
     let mut houses = 0;
     for v in 0..map.size() {
@@ -167,10 +169,10 @@ fn put_places<M: Map, D: Duty>(
     space: &mut [u8],
     at: usize,
 ) -> usize
-    requires counts { positions (M.Map.graph map.now) (D.Duty.rule duty.now) ≤ length count.now }
+    requires counts { positions (M.graph map.now) (D.rule duty.now) ≤ length count.now }
     requires room { at + 26 * 128 ≤ length space.old }
     ensures text { Put at
-        (text_of (place_lines (M.Map.graph map.now) (D.Duty.rule duty.now) (table [] count.now) (M.Map.graph map.now).size))
+        (text_of (place_lines (M.graph map.now) (D.rule duty.now) (table [] count.now) (M.graph map.now).size))
         space.old space.new result }
     ensures most { result ≤ at + 26 * 128 }
 {
@@ -184,10 +186,10 @@ fn put_places<M: Map, D: Duty>(
 
 // Puts the listing at the start of the space: at most 129 lines of at most 26 bytes.
 fn put_listing<M: Map, D: Duty>(map: &M, duty: &D, count: &[u16], space: &mut [u8]) -> usize
-    requires counts { positions (M.Map.graph map.now) (D.Duty.rule duty.now) ≤ length count.now }
+    requires counts { positions (M.graph map.now) (D.rule duty.now) ≤ length count.now }
     requires room { 26 * 129 ≤ length space.old }
     ensures text { Put 0
-        (listing (M.Map.graph map.now) (D.Duty.rule duty.now) (table [] count.now))
+        (listing (M.graph map.now) (D.rule duty.now) (table [] count.now))
         space.old space.new result }
     ensures most { result ≤ 26 * 129 }
 {
@@ -204,8 +206,8 @@ pub fn write_listing<M: Map, D: Duty>(
     space: &mut [u8],
 ) -> Result<usize, Refusal>
     ensures { MatchResult result
-        (Listed (M.Map.graph map.now) (D.Duty.rule duty.now) count.now space.old space.new)
-        (Refused (M.Map.graph map.now) (D.Duty.rule duty.now) count.now space.old space.new) }
+        (Listed (M.graph map.now) (D.rule duty.now) count.now space.old space.new)
+        (Refused (M.graph map.now) (D.rule duty.now) count.now space.old space.new) }
 {
     if count.len() < position_count(map, duty) as usize {
         return Err(Refusal::Short);

@@ -1,4 +1,6 @@
 // The maps that we build, behind the questions of game::Map.
+#![tactic(auto)]
+
 mod queue;
 
 pub use queue::Queue;

@@ -11,8 +11,8 @@ use game::{Duty, Map, Side, position_count};
 
 // Whether place v gets a count from the counts where its moves lead, at code e.
 fn attracts<M: Map>(map: &M, s: u8, count: &[u16], v: u8, e: u8) -> bool
-    requires { Within (M.Map.graph map.now) s count.now v e }
-    ensures { result ≡ attracted (M.Map.graph map.now) v (λ t. entry s count.now t e) }
+    requires { Within (M.graph map.now) s count.now v e }
+    ensures { result ≡ attracted (M.graph map.now) v (λ t. entry s count.now t e) }
 {
     match map.side(v) {
         Side::House => all_counted(map, s, count, v, e),
@@ -22,9 +22,9 @@ fn attracts<M: Map>(map: &M, s: u8, count: &[u16], v: u8, e: u8) -> bool
 
 // Whether a position without a count gets one from the counts so far.
 fn gains<M: Map, D: Duty>(map: &M, duty: &D, count: &[u16], v: u8, c: u8) -> bool
-    requires on { v < (M.Map.graph map.now).size }
-    requires room { positions (M.Map.graph map.now) (D.Duty.rule duty.now) ≤ length count.now }
-    ensures { result ≡ gains_at (M.Map.graph map.now) (D.Duty.rule duty.now) count.now v c }
+    requires on { v < (M.graph map.now).size }
+    requires room { positions (M.graph map.now) (D.rule duty.now) ≤ length count.now }
+    ensures { result ≡ gains_at (M.graph map.now) (D.rule duty.now) count.now v c }
 {
     match duty.step(c, map.mark(v)) {
         None => true,
@@ -34,11 +34,11 @@ fn gains<M: Map, D: Duty>(map: &M, duty: &D, count: &[u16], v: u8, c: u8) -> boo
 
 // Flags by 1, in place v's row, the codes that gain a count, and the others by 0.
 fn flag_row<M: Map, D: Duty>(map: &M, duty: &D, count: &[u16], v: u8, row: &mut [u8])
-    requires on { v < (M.Map.graph map.now).size }
-    requires room { positions (M.Map.graph map.now) (D.Duty.rule duty.now) ≤ length count.now }
-    requires width { length row.old ≡ (D.Duty.rule duty.now).codes }
-    ensures { (c : ℕ) → c < (D.Duty.rule duty.now).codes →
-        Flagged (M.Map.graph map.now) (D.Duty.rule duty.now) count.now v c (slice_index row.new c) }
+    requires on { v < (M.graph map.now).size }
+    requires room { positions (M.graph map.now) (D.rule duty.now) ≤ length count.now }
+    requires width { length row.old ≡ (D.rule duty.now).codes }
+    ensures { (c : ℕ) → c < (D.rule duty.now).codes →
+        Flagged (M.graph map.now) (D.rule duty.now) count.now v c (slice_index row.new c) }
 {
     for c in 0..duty.codes() {
         row[c as usize] = if gains(map, duty, count, v, c) { 1 } else { 0 };
@@ -47,10 +47,10 @@ fn flag_row<M: Map, D: Duty>(map: &M, duty: &D, count: &[u16], v: u8, row: &mut 
 
 // Flags what the next round counts. The plan buffer holds the flags, since no plan is written yet; the counts are only read.
 fn flag_rows<M: Map, D: Duty>(map: &M, duty: &D, count: &[u16], plan: &mut [u8])
-    requires plans { positions (M.Map.graph map.now) (D.Duty.rule duty.now) ≤ length plan.old }
-    requires counts { positions (M.Map.graph map.now) (D.Duty.rule duty.now) ≤ length count.now }
-    ensures { Rows (M.Map.graph map.now).size (D.Duty.rule duty.now).codes
-        (Flagged (M.Map.graph map.now) (D.Duty.rule duty.now) count.now)
+    requires plans { positions (M.graph map.now) (D.rule duty.now) ≤ length plan.old }
+    requires counts { positions (M.graph map.now) (D.rule duty.now) ≤ length count.now }
+    ensures { Rows (M.graph map.now).size (D.rule duty.now).codes
+        (Flagged (M.graph map.now) (D.rule duty.now) count.now)
         plan.old plan.new }
 {
     let s = duty.codes() as usize;
@@ -106,15 +106,15 @@ fn count_round<M: Map, D: Duty>(
     count: &mut [u16],
 ) -> bool
     requires few { done < 31872 }
-    requires plans { positions (M.Map.graph map.now) (D.Duty.rule duty.now) ≤ length plan.old }
-    requires counts { positions (M.Map.graph map.now) (D.Duty.rule duty.now) ≤ length count.old }
-    requires stand { Counts (M.Map.graph map.now) (D.Duty.rule duty.now) done count.old }
-    ensures given { Counts (M.Map.graph map.now) (D.Duty.rule duty.now) (done + 1) count.new }
-    ensures quiet { result ≡ false → Quiet (M.Map.graph map.now) (D.Duty.rule duty.now) done }
-    ensures loud { result ≡ true → Quiet (M.Map.graph map.now) (D.Duty.rule duty.now) done → ⊥ }
-    ensures plans { Tail (positions (M.Map.graph map.now) (D.Duty.rule duty.now))
+    requires plans { positions (M.graph map.now) (D.rule duty.now) ≤ length plan.old }
+    requires counts { positions (M.graph map.now) (D.rule duty.now) ≤ length count.old }
+    requires stand { Counts (M.graph map.now) (D.rule duty.now) done count.old }
+    ensures given { Counts (M.graph map.now) (D.rule duty.now) (done + 1) count.new }
+    ensures quiet { result ≡ false → Quiet (M.graph map.now) (D.rule duty.now) done }
+    ensures loud { result ≡ true → Quiet (M.graph map.now) (D.rule duty.now) done → ⊥ }
+    ensures plans { Tail (positions (M.graph map.now) (D.rule duty.now))
         plan.old plan.new }
-    ensures counts { Tail (positions (M.Map.graph map.now) (D.Duty.rule duty.now))
+    ensures counts { Tail (positions (M.graph map.now) (D.rule duty.now))
         count.old count.new }
 {
     flag_rows(map, duty, count, plan);
@@ -134,12 +134,12 @@ fn clear(count: &mut [u16], n: u16)
 
 // The counts, by rounds up to the first that gives nothing.
 pub(crate) fn count_all<M: Map, D: Duty>(map: &M, duty: &D, plan: &mut [u8], count: &mut [u16])
-    requires plans { positions (M.Map.graph map.now) (D.Duty.rule duty.now) ≤ length plan.old }
-    requires counts { positions (M.Map.graph map.now) (D.Duty.rule duty.now) ≤ length count.old }
-    ensures given { Finished (M.Map.graph map.now) (D.Duty.rule duty.now) count.new }
-    ensures plans { Tail (positions (M.Map.graph map.now) (D.Duty.rule duty.now))
+    requires plans { positions (M.graph map.now) (D.rule duty.now) ≤ length plan.old }
+    requires counts { positions (M.graph map.now) (D.rule duty.now) ≤ length count.old }
+    ensures given { Finished (M.graph map.now) (D.rule duty.now) count.new }
+    ensures plans { Tail (positions (M.graph map.now) (D.rule duty.now))
         plan.old plan.new }
-    ensures counts { Tail (positions (M.Map.graph map.now) (D.Duty.rule duty.now))
+    ensures counts { Tail (positions (M.graph map.now) (D.rule duty.now))
         count.old count.new }
 {
     let most = position_count(map, duty);

@@ -1,4 +1,6 @@
 // Solves the game of any map and duty: counts by rounds, then plan bytes by the counts.
+#![tactic(auto)]
+
 ghost use Rattle.std.specs.Prelude.{◌≡◌, MatchResult};
 ghost use Rattle.game.specs.declared.Refusal.TheVariants.{Short};
 ghost use Rattle.solver.specs.Solve.{Solves, ShortOf};
@@ -19,9 +21,9 @@ pub fn solve<M: Map, D: Duty>(
     count: &mut [u16],
 ) -> Result<(), Refusal>
     ensures { MatchResult result
-        (λ _. Solves (M.Map.graph map.now) (D.Duty.rule duty.now)
+        (λ _. Solves (M.graph map.now) (D.rule duty.now)
         plan.old count.old plan.new count.new)
-        (λ e. (e ≡ Short) × ShortOf (M.Map.graph map.now) (D.Duty.rule duty.now)
+        (λ e. (e ≡ Short) × ShortOf (M.graph map.now) (D.rule duty.now)
         plan.old count.old plan.new count.new) }
 {
     let most = position_count(map, duty) as usize;

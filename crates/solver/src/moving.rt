@@ -9,7 +9,7 @@ use game::Map;
 
 // How many moves a place has: one at least.
 pub(crate) fn move_count<M: Map>(map: &M, v: u8) -> u8
-    ensures { result ≡ length (moves (M.Map.graph map.now) v) }
+    ensures { result ≡ length (moves (M.graph map.now) v) }
 {
     let ways = map.ways(v);
     if ways == 0 { 1 } else { ways }
@@ -17,17 +17,17 @@ pub(crate) fn move_count<M: Map>(map: &M, v: u8) -> u8
 
 // The count where move k leads, at code e.
 pub(crate) fn look_ahead<M: Map>(map: &M, s: u8, count: &[u16], v: u8, e: u8, k: u8) -> u16
-    requires within { Within (M.Map.graph map.now) s count.now v e }
-    requires way { k < length (moves (M.Map.graph map.now) v) }
-    ensures { result ≡ ahead (M.Map.graph map.now) s count.now v e k }
+    requires within { Within (M.graph map.now) s count.now v e }
+    requires way { k < length (moves (M.graph map.now) v) }
+    ensures { result ≡ ahead (M.graph map.now) s count.now v e k }
 {
     count[map.way(v, k) as usize * s as usize + e as usize]
 }
 
 // The lowest move to a counted position, if wanted, or else to one without a count. The number of moves if there is none.
 pub(crate) fn first_move<M: Map>(map: &M, s: u8, count: &[u16], v: u8, e: u8, wanted: bool) -> u8
-    requires { Within (M.Map.graph map.now) s count.now v e }
-    ensures { First (M.Map.graph map.now) s count.now v e wanted result }
+    requires { Within (M.graph map.now) s count.now v e }
+    ensures { First (M.graph map.now) s count.now v e wanted result }
 {
     let all = move_count(map, v);
     for k in 0..all {
@@ -41,16 +41,16 @@ pub(crate) fn first_move<M: Map>(map: &M, s: u8, count: &[u16], v: u8, e: u8, wa
 
 // Whether all moves lead to counted positions.
 pub(crate) fn all_counted<M: Map>(map: &M, s: u8, count: &[u16], v: u8, e: u8) -> bool
-    requires { Within (M.Map.graph map.now) s count.now v e }
-    ensures { result ≡ all (λ t. counted (entry s count.now t e)) (moves (M.Map.graph map.now) v) }
+    requires { Within (M.graph map.now) s count.now v e }
+    ensures { result ≡ all (λ t. counted (entry s count.now t e)) (moves (M.graph map.now) v) }
 {
     first_move(map, s, count, v, e, false) == move_count(map, v)
 }
 
 // Whether some move leads to a counted position.
 pub(crate) fn some_counted<M: Map>(map: &M, s: u8, count: &[u16], v: u8, e: u8) -> bool
-    requires { Within (M.Map.graph map.now) s count.now v e }
-    ensures { result ≡ any (λ t. counted (entry s count.now t e)) (moves (M.Map.graph map.now) v) }
+    requires { Within (M.graph map.now) s count.now v e }
+    ensures { result ≡ any (λ t. counted (entry s count.now t e)) (moves (M.graph map.now) v) }
 {
     first_move(map, s, count, v, e, true) != move_count(map, v)
 }
@@ -65,10 +65,10 @@ fn is_lower(n: u16, low: u16) -> bool
 
 // The lowest move to the smallest count above 0, where there is one.
 pub(crate) fn least_move<M: Map>(map: &M, s: u8, count: &[u16], v: u8, e: u8) -> u8
-    requires { Within (M.Map.graph map.now) s count.now v e }
-    ensures { (k : ℕ) → k < length (moves (M.Map.graph map.now) v) →
-        0 < ahead (M.Map.graph map.now) s count.now v e k →
-        Least (M.Map.graph map.now) s count.now v e (length (moves (M.Map.graph map.now) v)) result }
+    requires { Within (M.graph map.now) s count.now v e }
+    ensures { (k : ℕ) → k < length (moves (M.graph map.now) v) →
+        0 < ahead (M.graph map.now) s count.now v e k →
+        Least (M.graph map.now) s count.now v e (length (moves (M.graph map.now) v)) result }
 {
     let mut best = 8;
     let mut low = 0;

@@ -13,11 +13,11 @@ const NO_WAY: u8 = 8;
 
 // The plan byte that finished counts ask for.
 fn plan_byte<M: Map, D: Duty>(map: &M, duty: &D, count: &[u16], v: u8, c: u8) -> u8
-    requires on { v < (M.Map.graph map.now).size }
-    requires code { c < (D.Duty.rule duty.now).codes }
-    requires room { positions (M.Map.graph map.now) (D.Duty.rule duty.now) ≤ length count.now }
-    requires given { Finished (M.Map.graph map.now) (D.Duty.rule duty.now) count.now }
-    ensures { FitPlan (M.Map.graph map.now) (D.Duty.rule duty.now) count.now v c result }
+    requires on { v < (M.graph map.now).size }
+    requires code { c < (D.rule duty.now).codes }
+    requires room { positions (M.graph map.now) (D.rule duty.now) ≤ length count.now }
+    requires given { Finished (M.graph map.now) (D.rule duty.now) count.now }
+    ensures { FitPlan (M.graph map.now) (D.rule duty.now) count.now v c result }
 {
     let s = duty.codes();
     let here = count[v as usize * s as usize + c as usize];
@@ -33,12 +33,12 @@ fn plan_byte<M: Map, D: Duty>(map: &M, duty: &D, count: &[u16], v: u8, c: u8) ->
 
 // The plan bytes of place v's row.
 fn plan_row<M: Map, D: Duty>(map: &M, duty: &D, count: &[u16], v: u8, row: &mut [u8])
-    requires on { v < (M.Map.graph map.now).size }
-    requires room { positions (M.Map.graph map.now) (D.Duty.rule duty.now) ≤ length count.now }
-    requires given { Finished (M.Map.graph map.now) (D.Duty.rule duty.now) count.now }
-    requires width { length row.old ≡ (D.Duty.rule duty.now).codes }
-    ensures { (c : ℕ) → c < (D.Duty.rule duty.now).codes →
-        FitPlan (M.Map.graph map.now) (D.Duty.rule duty.now) count.now v c (slice_index row.new c) }
+    requires on { v < (M.graph map.now).size }
+    requires room { positions (M.graph map.now) (D.rule duty.now) ≤ length count.now }
+    requires given { Finished (M.graph map.now) (D.rule duty.now) count.now }
+    requires width { length row.old ≡ (D.rule duty.now).codes }
+    ensures { (c : ℕ) → c < (D.rule duty.now).codes →
+        FitPlan (M.graph map.now) (D.rule duty.now) count.now v c (slice_index row.new c) }
 {
     for c in 0..duty.codes() {
         row[c as usize] = plan_byte(map, duty, count, v, c);
@@ -47,11 +47,11 @@ fn plan_row<M: Map, D: Duty>(map: &M, duty: &D, count: &[u16], v: u8, row: &mut 
 
 // The plan bytes of all rows. The counts are only read.
 pub(crate) fn plan_all<M: Map, D: Duty>(map: &M, duty: &D, count: &[u16], plan: &mut [u8])
-    requires plans { positions (M.Map.graph map.now) (D.Duty.rule duty.now) ≤ length plan.old }
-    requires counts { positions (M.Map.graph map.now) (D.Duty.rule duty.now) ≤ length count.now }
-    requires given { Finished (M.Map.graph map.now) (D.Duty.rule duty.now) count.now }
-    ensures { Rows (M.Map.graph map.now).size (D.Duty.rule duty.now).codes
-        (FitPlan (M.Map.graph map.now) (D.Duty.rule duty.now) count.now)
+    requires plans { positions (M.graph map.now) (D.rule duty.now) ≤ length plan.old }
+    requires counts { positions (M.graph map.now) (D.rule duty.now) ≤ length count.now }
+    requires given { Finished (M.graph map.now) (D.rule duty.now) count.now }
+    ensures { Rows (M.graph map.now).size (D.rule duty.now).codes
+        (FitPlan (M.graph map.now) (D.rule duty.now) count.now)
         plan.old plan.new }
 {
     let s = duty.codes() as usize;

@@ -1,4 +1,6 @@
 // Reads a job text from standard input, and prints its listing or why it is refused.
+#![tactic(auto)]
+
 use decision::decide;
 use listing::SPACE;
 use std::io;

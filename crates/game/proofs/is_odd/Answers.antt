@@ -5,6 +5,6 @@ use Rattle.game.proofs.is_odd.Goals as goal
 
 pub returns : goal.returns
 returns c = record {
-  test = c.leaves-remainder.ensures;
-  means = subst (TellsOdd c.args.mark) (sym c.leaves-remainder.ensures) (tells_odd c.args.mark);
+  test = c.leaves_remainder.ensures;
+  means = subst (TellsOdd c.args.mark) (sym c.leaves_remainder.ensures) (tells_odd c.args.mark);
 }
