@@ -19,12 +19,12 @@ returns-then-n-lt10 t c = record {
 
 pub put-requires-2 : goal.put-requires-2
 put-requires-2 t c =
-    omega (arith, longer c.args.n c.if-n-lt10.false (omega arith), c.put-number-last.ensures.text.ends, c.put-number-last.auto.space)
+    omega (arith, longer c.args.n c.if-n-lt10.false (omega arith), c.put_number-last.ensures.text.ends, c.put_number-last.auto.space)
 
 pub returns : goal.returns
 returns t c = record {
   text =
       put_same (sym (decimal_step c.args.n c.if-n-lt10.false (omega arith)))
-      (put_more (omega (arith, c.put-number-last.ensures.most)) c.put-number-last.ensures.text c.put-2.ensures);
-  most = omega (arith, longer c.args.n c.if-n-lt10.false (omega arith), c.put-number-last.ensures.text.ends, c.put-2.ensures.ends);
+      (put_more (omega (arith, c.put_number-last.ensures.most)) c.put_number-last.ensures.text c.put-2.ensures);
+  most = omega (arith, longer c.args.n c.if-n-lt10.false (omega arith), c.put_number-last.ensures.text.ends, c.put-2.ensures.ends);
 }

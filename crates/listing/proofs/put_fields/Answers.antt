@@ -11,7 +11,7 @@ loop-field-init c = (put_none c.args.at c.args.space.now, omega arith)
 pub loop-field-preserved : goal.loop-field-preserved
 loop-field-preserved c = (
   put_same (fields_more field_text c.args.fields.now c.loop-field.field-index _ c.loop-field-test.true)
-      (put_more (omega arith) c.loop-field.invariant.0 (put_more (omega arith) c.put-end.ensures c.put-field-end.ensures.text)),
+      (put_more (omega arith) c.loop-field.invariant.0 (put_more (omega arith) c.put-end.ensures c.put_field-end.ensures.text)),
   omega arith,
 )
 

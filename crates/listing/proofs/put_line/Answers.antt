@@ -5,6 +5,6 @@ use Rattle.listing.proofs.put_line.Goals as goal
 
 pub returns : goal.returns
 returns c = record {
-  text = put_more (omega arith) (put_more (omega arith) c.put-kind-at.ensures.text c.put-fields-at.ensures.text) c.put.ensures;
+  text = put_more (omega arith) (put_more (omega arith) c.put_kind-at.ensures.text c.put_fields-at.ensures.text) c.put.ensures;
   most = search rules;
 }

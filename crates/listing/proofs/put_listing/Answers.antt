@@ -8,7 +8,7 @@ pub returns : goal.returns
 returns g c = record {
   text =
       put_more (omega arith)
-      (put_same (λ i. ended (header_line (c.size.ensures i) (c.codes.ensures i) (c.count-houses-houses.ensures i))) c.put-header-at.ensures.text)
-      c.put-places.ensures.text;
+      (put_same (λ i. ended (header_line (c.size.ensures i) (c.codes.ensures i) (c.count_houses-houses.ensures i))) c.put_header-at.ensures.text)
+      c.put_places.ensures.text;
   most = search rules;
 }

@@ -21,12 +21,12 @@ returns g c =
     let D = g.D.Duty.rule c.args.duty.now in
     let fit = g.M.Map.fit c.args.map.now in
     let lawful = g.D.Duty.lawful c.args.duty.now in
-    let rows = rows_to _ G.size (c.args.done + 1) _ D.codes c.flag-rows.new.plan c.args.count.now c.settle-rows.new.count c.size.ensures c.codes.ensures c.settle-rows.ensures.rows in
-    let next = round_counts G D fit lawful c.args.done c.args.plan.now c.flag-rows.new.plan c.args.count.now c.settle-rows.new.count c.requires.stand c.flag-rows.ensures rows in
+    let rows = rows_to _ G.size (c.args.done + 1) _ D.codes c.flag_rows.new.plan c.args.count.now c.settle_rows.new.count c.size.ensures c.codes.ensures c.settle_rows.ensures.rows in
+    let next = round_counts G D fit lawful c.args.done c.args.plan.now c.flag_rows.new.plan c.args.count.now c.settle_rows.new.count c.requires.stand c.flag_rows.ensures rows in
     record {
       given = next;
-      quiet = λ none. round_quiet G D fit lawful c.args.done c.args.count.now c.settle-rows.new.count c.requires.stand next (c.settle-rows.ensures.none none);
-      loud = λ some. round_loud G D fit lawful c.args.done c.args.plan.now c.flag-rows.new.plan c.args.count.now c.settle-rows.new.count c.requires.stand c.flag-rows.ensures rows (due_to _ G.size _ D.codes c.flag-rows.new.plan c.args.count.now c.size.ensures c.codes.ensures (c.settle-rows.ensures.some some));
-      plans = c.flag-rows.ensures.tail;
+      quiet = λ none. round_quiet G D fit lawful c.args.done c.args.count.now c.settle_rows.new.count c.requires.stand next (c.settle_rows.ensures.none none);
+      loud = λ some. round_loud G D fit lawful c.args.done c.args.plan.now c.flag_rows.new.plan c.args.count.now c.settle_rows.new.count c.requires.stand c.flag_rows.ensures rows (due_to _ G.size _ D.codes c.flag_rows.new.plan c.args.count.now c.size.ensures c.codes.ensures (c.settle_rows.ensures.some some));
+      plans = c.flag_rows.ensures.tail;
       counts = rows.tail;
     }

@@ -8,10 +8,10 @@ use Rattle.solver.proofs.planning.plan_all.Goals.{In-loop-v}
 fits : (g : given.Over) (c : In-loop-v g) → c.loop-v.v * c.codes-s.result + c.codes-s.result ≤ length c.loop-v.plan
 fits g c = row_room _ _ _ _ _ _ _ c.codes-s.ensures c.size-v-end.ensures c.loop-v-test.true c.loop-v.auto.plan c.requires.plans
 
-pub slice-bounds-plan-row-end : goal.slice-bounds-plan-row-end
-slice-bounds-plan-row-end g c = fits g (goal.at.slice-bounds-plan-row-end g c).In-loop-v
+pub slice_bounds-plan_row-end : goal.slice_bounds-plan_row-end
+slice_bounds-plan_row-end g c = fits g (goal.at.slice_bounds-plan_row-end g c).In-loop-v
 
 pub loop-v-preserved : goal.loop-v-preserved
 loop-v-preserved g c =
-    rows_more c.loop-v.v c.codes-s.result _ c.args.plan.now c.loop-v.plan c.plan-row.new.row c.loop-v.invariant (fits g (goal.at.loop-v-preserved g c).In-loop-v) c.plan-row.auto.row
-    (λ k h. c.plan-row.ensures k (subst (λ (n : ℕ). k < n) c.codes-s.ensures h))
+    rows_more c.loop-v.v c.codes-s.result _ c.args.plan.now c.loop-v.plan c.plan_row.new.row c.loop-v.invariant (fits g (goal.at.loop-v-preserved g c).In-loop-v) c.plan_row.auto.row
+    (λ k h. c.plan_row.ensures k (subst (λ (n : ℕ). k < n) c.codes-s.ensures h))
