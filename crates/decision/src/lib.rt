@@ -99,8 +99,7 @@ fn list_game<M: Map, D: Duty>(
         (LacksSpace space.old space.new) }
 {
     solve(map, duty, plan, count)?;
-    let long = write_listing(map, duty, count, space)?;
-    Ok(long)
+    write_listing(map, duty, count, space)
 }
 
 // Decides in lent tables.

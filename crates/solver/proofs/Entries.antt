@@ -1,5 +1,5 @@
 -- Where a row and an entry of it lie in a table.
-use Rattle.std.proofs.Common.{◌≡◌, ℕ, ◌+◌, ◌*◌, ◌<◌, ◌≤◌, length, sym, ap, ◌∙◌, subst, mul-le-mul_right, add-mul, one-mul, arith}
+use Rattle.std.proofs.Common.{◌≡◌, ℕ, ◌+◌, ◌*◌, ◌<◌, ◌≤◌, sym, ap, ◌∙◌, subst, mul-le-mul_right, add-mul, one-mul, arith}
 
 pub next_row : (v s : ℕ) → (v + 1) * s ≡ v * s + s
 next_row v s = add-mul v 1 s ∙ ap (λ (k : ℕ). v * s + k) (one-mul s)

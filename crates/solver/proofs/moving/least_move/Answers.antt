@@ -1,6 +1,5 @@
 use Rattle.std.proofs.Common.{◌+◌, arith}
 use Rattle.solver.proofs.Best.{best_new, best_old, best_to, best_end}
-use Rattle.solver.proofs.moving.least_move.Given as given
 use Rattle.solver.proofs.moving.least_move.Goals as goal
 use Rattle.solver.proofs.moving.least_move.Goals.{then-is_lower, else-is_lower}
 

@@ -2,7 +2,6 @@ use Rattle.std.proofs.Common.{ℕ, ◌+◌, ◌*◌, ◌<◌, length, get_or, sy
 use Rattle.game.proofs.Moves.{moves_inside}
 use Rattle.solver.proofs.Entries.{entry_in}
 use Rattle.solver.proofs.Moves.{move_target}
-use Rattle.solver.proofs.moving.look_ahead.Given as given
 use Rattle.solver.proofs.moving.look_ahead.Goals as goal
 
 pub bounds-count-way : goal.bounds-count-way
