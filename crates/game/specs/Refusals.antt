@@ -1,5 +1,5 @@
--- What each refusal is known by: its number, and the values that it names.
-use Rattle.std.specs.Prelude.{ℕ, List, [], ◌∷◌, Some, None, Option}
+-- What each refusal is known by: its number, and the position that it names.
+use Rattle.std.specs.Prelude.{ℕ, Some, None, Option}
 use Rattle.game.specs.declared.Refusal.{Refusal}
 use Rattle.game.specs.declared.Refusal.TheVariants.{Limits, Full, Short, Disobeys, Space, Start, Ended, WrongSide, NoWay, Misfit}
 
@@ -15,20 +15,7 @@ refusal_number WrongSide = 33
 refusal_number NoWay = 34
 refusal_number Misfit = 35
 
--- 22 names a position; no other refusal of a call names a value
-abbrev pub refusal_values : Refusal → List ℕ
-refusal_values Limits = []
-refusal_values Full = []
-refusal_values Short = []
-refusal_values (Disobeys position) = position ∷ []
-refusal_values Space = []
-refusal_values Start = []
-refusal_values Ended = []
-refusal_values WrongSide = []
-refusal_values NoWay = []
-refusal_values Misfit = []
-
--- the position that it names, if it names one
+-- the position that it names, if it names one: only 22 does, and no refusal names another value
 abbrev pub refusal_position : Refusal → Option ℕ
 refusal_position Limits = None
 refusal_position Full = None

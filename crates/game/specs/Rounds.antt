@@ -1,20 +1,13 @@
 -- Positions and the rounds that count them (ranks of the guest's attractor, over places times codes).
 -- The position (v, c) means standing on place v with code c from the marks before v.
-use Rattle.std.specs.Prelude.{◌≡◌, ℕ, zero, suc, ◌*◌, ◌<◌, ◌≤◌, Bool, true, false, cond, not, ◌&&◌, ◌||◌, List, [], ◌∷◌, length, Some, None, Option, ◌==◌, slice_index}
+use Rattle.std.specs.Prelude.{◌≡◌, ℕ, zero, suc, ◌*◌, ◌<◌, ◌≤◌, Bool, true, false, cond, not, length, Some, None, Option, ◌==◌, slice_index}
+use Rattle.std.specs.List.{list_all, list_any}
 use Rattle.game.specs.Graph.{Graph, moves}
 use Rattle.game.specs.Rule.{Rule}
 
 -- how many positions there are
 abbrev pub positions : Graph → Rule → ℕ
 positions g d = g.size * d.codes
-
-abbrev pub any : (ℕ → Bool) → List ℕ → Bool
-any f [] = false
-any f (x ∷ xs) = f x || any f xs
-
-abbrev pub all : (ℕ → Bool) → List ℕ → Bool
-all f [] = true
-all f (x ∷ xs) = f x && all f xs
 
 -- a count that stands is kept
 abbrev pub or_else : ℕ → ℕ → ℕ
@@ -28,7 +21,7 @@ counted n = not (n == 0)
 -- whether a round counts place v by the counts where its moves lead: a house place if all are counted, a guest place
 -- if some is (one step of the guest's attractor)
 abbrev pub attracted : Graph → ℕ → (ℕ → ℕ) → Bool
-attracted g v at = cond (g.house v) (all (λ t. counted (at t)) (moves g v)) (any (λ t. counted (at t)) (moves g v))
+attracted g v at = cond (g.house v) (list_all (λ t. counted (at t)) (moves g v)) (list_any (λ t. counted (at t)) (moves g v))
 
 -- what round r + 1 gives place v, by the counts before it and what the step answered: a broken step is counted at once;
 -- else it goes by the counts at the code that the step answered
