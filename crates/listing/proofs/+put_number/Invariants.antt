@@ -1,5 +1,0 @@
--- A tenth is less.
-use Rattle.listing.proofs.+put_number.Given as goal
-
-abbrev pub decreases-put_number : goal.decreases-put_number
-decreases-put_number l = l.n
