@@ -1,6 +1,5 @@
-pub mod Entries
-pub mod Rows
 pub mod Moves
-pub mod Best
-pub mod Counts
+pub mod Searches
+pub mod Round
 pub mod Plans
+pub mod Solving

@@ -1,55 +1,40 @@
--- Where a place's moves lead, and what is found among them.
-use Rattle.std.proofs.Common.{◌≡◌, ℕ, zero, suc, ◌*◌, ◌<◌, ◌≤◌, true, false, cond, not, eqb, ltb, List, [], ◌∷◌, length, get_or, Some, None, Option, sym, refl, ap, ◌∙◌, subst, ⊎_elim, arith}
-use Rattle.std.proofs.lemmas.Bool.{cases_lt, eq-eqb, ne_eqb, cond-true, lt-ltb}
-use Rattle.game.specs.Graph.{Graph, moves, or_stay, target}
-use Rattle.game.specs.Rule.{Rule, Lawful}
-use Rattle.game.specs.Rounds.{positions, all, any, counted}
-use Rattle.game.specs.Table.{entry}
-use Rattle.game.proofs.Moves.{any_up, any_down, all_up, all_down, all_same, any_same}
-use Rattle.solver.specs.Moves.{Within, First}
+-- Searches among the moves of a place by their numbers are searches among the places where they lead.
+use Rattle.std.proofs.Common.{◌≡◌, ℕ, suc, ◌<◌, Bool, ◌||◌, List, [], ◌∷◌, length, get_or, map, sym, refl, ap, ◌∙◌, arith}
+use Rattle.std.specs.Prelude.{Some, None, Option}
+use Rattle.std.specs.List.{list_all, list_any, range_with_len}
+use Rattle.std.proofs.lemmas.List.{ext_get_or}
+use Rattle.std.proofs.lemmas.List.FromFn.{length-map-range_with_len, get_or-map-range_with_len}
+use Rattle.std.proofs.lemmas.List.Folds.{list_all-map}
+use Rattle.game.specs.Graph.{Graph, moves}
+use Rattle.game.specs.Rounds.{counted}
 use Rattle.solver.specs.Rounds.{gains}
 
-stay_target : (v n k : ℕ) (ws : List ℕ) → v < n → k < length (or_stay v ws)
-    → cond (ltb k (length ws)) (get_or ws k 0) (cond (ltb v n) v 0) ≡ get_or (or_stay v ws) k 0
-stay_target v n zero [] lv lk = cond-true (ltb v n) v 0 (lt-ltb v n lv)
-stay_target v n (suc k) [] lv lk = absurd (omega arith)
-stay_target v n k (w ∷ ws) lv lk = cond-true (ltb k (length (w ∷ ws))) (get_or (w ∷ ws) k 0) (cond (ltb v n) v 0) (lt-ltb k (length (w ∷ ws)) lk)
+-- a list, read at each of its indices
+read_all : (xs : List ℕ) → map (λ k. get_or xs k 0) (range_with_len 0 (length xs)) ≡ xs
+read_all xs =
+    let long = length-map-range_with_len (λ k. get_or xs k 0) 0 (length xs) in
+    ext_get_or 0 (map (λ k. get_or xs k 0) (range_with_len 0 (length xs))) xs long
+    (λ i h. get_or-map-range_with_len (λ k. get_or xs k 0) 0 (length xs) i i 0 (omega (arith, long)) (omega arith))
 
--- a move leads where the way of its number does
-pub move_target : (g : Graph) (v k : ℕ) → v < g.size → k < length (moves g v) → target g v k ≡ get_or (moves g v) k 0
-move_target g v k lv lk = stay_target v g.size k (g.ways v) lv lk
+pub all_read : (p : ℕ → Bool) (xs : List ℕ) → list_all (λ k. p (get_or xs k 0)) (range_with_len 0 (length xs)) ≡ list_all p xs
+all_read p xs = sym (list_all-map p (λ k. get_or xs k 0) (range_with_len 0 (length xs))) ∙ ap (list_all p) (read_all xs)
 
--- the step from c at the mark that the map answered
-pub step_told : (d : Rule) (c m n : ℕ) (o : Option ℕ) → m ≡ n → o ≡ d.step c m → d.step c n ≡ o
-step_told d c m n o same is = ap (d.step c) (sym same) ∙ sym is
+any_map : (p : ℕ → Bool) (h : ℕ → ℕ) (ks : List ℕ) → list_any p (map h ks) ≡ list_any (λ k. p (h k)) ks
+any_map p h [] = refl
+any_map p h (k ∷ ks) = ap (λ (b : Bool). p (h k) || b) (any_map p h ks)
 
--- what a search among the moves asks, where the step answered e
-pub within_told : (g : Graph) (d : Rule) → Lawful d → (count : List ℕ) (s v c m e : ℕ) → s ≡ d.codes
-    → d.step c m ≡ Some e → v < g.size → positions g d ≤ length count → Within g s count v e
-within_told g d lawful count s v c m e same is on room = record {
-  on = on;
-  coded = omega (arith, (lawful.settled c m e is).2);
-  room = subst (λ (n : ℕ). g.size * n ≤ length count) (sym same) room;
-}
+pub any_read : (p : ℕ → Bool) (xs : List ℕ) → list_any (λ k. p (get_or xs k 0)) (range_with_len 0 (length xs)) ≡ list_any p xs
+any_read p xs = sym (any_map p (λ k. get_or xs k 0) (range_with_len 0 (length xs))) ∙ ap (list_any p) (read_all xs)
 
--- the answer of a search for an uncounted move tells whether all are counted
-pub all_told : (g : Graph) (s : ℕ) (count : List ℕ) (v e k : ℕ) → First g s count v e false k
-    → eqb k (length (moves g v)) ≡ all (λ t. counted (entry s count t e)) (moves g v)
-all_told g s count v e k f =
-    let m : ℕ = length (moves g v) in
-    ⊎_elim
-    (λ l. ne_eqb k m (omega arith) ∙ sym (all_down (λ t. counted (entry s count t e)) (moves g v) k l (f.found l)))
-    (λ l. let same : k ≡ m = omega (arith, f.within) in eq-eqb k m same ∙ sym (all_up (λ t. counted (entry s count t e)) (moves g v) (λ j h. f.before j (omega arith))))
-    (cases_lt k m)
+all_same : (f h : ℕ → Bool) (xs : List ℕ) → ((k : ℕ) → k < length xs → f (get_or xs k 0) ≡ h (get_or xs k 0))
+    → list_all f xs ≡ list_all h xs
+all_same f h [] each = refl
+all_same f h (x ∷ xs) each = let a = each 0 (omega arith) in let b = all_same f h xs (λ k l. each (suc k) (omega arith)) in cc
 
-pub any_told : (g : Graph) (s : ℕ) (count : List ℕ) (v e k : ℕ) → First g s count v e true k
-    → not (eqb k (length (moves g v))) ≡ any (λ t. counted (entry s count t e)) (moves g v)
-any_told g s count v e k f =
-    let m : ℕ = length (moves g v) in
-    ⊎_elim
-    (λ l. ap not (ne_eqb k m (omega arith)) ∙ sym (any_up (λ t. counted (entry s count t e)) (moves g v) k l (f.found l)))
-    (λ l. let same : k ≡ m = omega (arith, f.within) in ap not (eq-eqb k m same) ∙ sym (any_down (λ t. counted (entry s count t e)) (moves g v) (λ j h. f.before j (omega arith))))
-    (cases_lt k m)
+any_same : (f h : ℕ → Bool) (xs : List ℕ) → ((k : ℕ) → k < length xs → f (get_or xs k 0) ≡ h (get_or xs k 0))
+    → list_any f xs ≡ list_any h xs
+any_same f h [] each = refl
+any_same f h (x ∷ xs) each = let a = each 0 (omega arith) in let b = any_same f h xs (λ k l. each (suc k) (omega arith)) in cc
 
 -- what is gained depends on the counts where the moves lead
 pub gains_same : (g : Graph) (v : ℕ) (f h : ℕ → ℕ → ℕ) (o : Option ℕ)

@@ -1,65 +1,80 @@
 -- The plan byte that finished counts ask for.
-use Rattle.std.proofs.Common.{◌≡◌, ℕ, zero, suc, ◌*◌, ◌<◌, true, false, List, length, get_or, Some, Option, sym, refl, ◌∙◌, subst, ⊎_elim, arith}
-use Rattle.std.proofs.lemmas.Bool.{both_ways, cases_lt}
+use Rattle.std.proofs.Common.{◌≡◌, ℕ, zero, suc, ◌<◌, true, false, List, [], length, get_or, Some, None, Option, sym, refl, ◌∙◌, subst, arith}
+use Rattle.std.specs.Option.{unwrap_or}
+use Rattle.std.proofs.lemmas.Bool.{both_ways}
 use Rattle.game.specs.Graph.{Graph, Fit, moves}
 use Rattle.game.specs.Rule.{Rule, Lawful}
-use Rattle.game.specs.Rounds.{rounds}
-use Rattle.game.specs.Table.{entry, Planned, Table, LowestZero, LowestLeast}
-use Rattle.game.proofs.Moves.{moves_inside, counted_true, counted_false}
+use Rattle.game.specs.Rounds.{positions}
+use Rattle.game.specs.Table.{entry, table, move_count, LowestZero, LowestLeast}
+use Rattle.game.proofs.Moves.{moves_inside}
 use Rattle.game.proofs.Rounds.{small, live_test, born, house_false, guest_true, given_later}
 use Rattle.game.proofs.Ends.{stable}
-use Rattle.solver.specs.Moves.{First, Least, ahead}
-use Rattle.game.specs.Table.{table}
+use Rattle.solver.specs.Moves.{lowest, least}
+use Rattle.solver.specs.Rounds.{Finished}
+use Rattle.solver.proofs.Searches.{lowest_none, lowest_some, least_none, least_some}
+use Rattle.solver.specs.Solve.{FitPlan}
 
--- the counts alone say which byte is asked for
-pub planned_by : (g : Graph) (d : Rule) (p q count : List ℕ) (v c b : ℕ) → Planned g d (table p count) v c b → Planned g d (table q count) v c b
-planned_by g d p q count v c b h = record { holds = h.holds; attacks = h.attacks; waits_house = h.waits_house; waits_guest = h.waits_guest }
-
-pub same_answer : (o : Option ℕ) (e f : ℕ) → o ≡ Some e → o ≡ Some f → e ≡ f
+same_answer : (o : Option ℕ) (e f : ℕ) → o ≡ Some e → o ≡ Some f → e ≡ f
 same_answer o e f p q = cc
 
-module _ (g : Graph) (d : Rule) (fit : Fit g) (lawful : Lawful d) (p count : List ℕ) (counts : (v c : ℕ) → v < g.size → c < d.codes → entry d.codes count v c ≡ rounds g d v c) (v c : ℕ) (lv : v < g.size) (lc : c < d.codes) where
-  abbrev end : ℕ
-  end = g.size * d.codes
+module _ (g : Graph) (d : Rule) (fit : Fit g) (lawful : Lawful d) (count : List ℕ) (counts : Finished g d count) (v c e : ℕ)
+    (lv : v < g.size) (lc : c < d.codes) (step : d.step c (g.mark v) ≡ Some e) where
+  abbrev ahead : ℕ → ℕ
+  ahead = move_count g d (table [] count) v e
 
-  abbrev T : Table
-  T = table p count
+  -- a house place without a count has a move to one
+  some_zero : g.house v ≡ true → entry d.codes count v c ≡ 0 → (k : ℕ) × (k < length (moves g v)) × (ahead k ≡ 0)
+  some_zero house z =
+      let next = stable g d fit lawful (suc (positions g d)) v c lv lc (sym (counts v c lv lc) ∙ z) in
+      let way = house_false g d (positions g d) v e house (live_test g d (positions g d) v c e step next) in
+      (way.0, way.1, counts _ e (moves_inside g fit v way.0 lv way.1) (lawful.settled c (g.mark v) e step).2 ∙ way.2)
 
-  abbrev here : ℕ
-  here = entry d.codes count v c
-
-  pub planned_house : (e k : ℕ) → d.step c (g.mark v) ≡ Some e → g.house v ≡ true → here ≡ 0 → First g d.codes count v e false k → Planned g d T v c k
-  planned_house e k step house z f =
-      let next = stable g d fit lawful (suc end) v c lv lc (sym (counts v c lv lc) ∙ z) in
-      let le = (lawful.settled c (g.mark v) e step).2 in
-      let way = house_false g d end v e house (live_test g d end v c e step next) in
-      let none : ahead g d.codes count v e way.0 ≡ 0 = counts _ e (moves_inside g fit v way.0 lv way.1) le ∙ way.2 in
-      let found : k < length (moves g v) = ⊎_elim
-      (λ l. l)
-      (λ l. absurd (omega (arith, none, counted_true (ahead g d.codes count v e way.0) (f.before way.0 (omega (arith, way.1))))))
-      (cases_lt k (length (moves g v))) in
-      record {
-        holds = λ e' step' house' z'. subst (λ (x : ℕ). LowestZero g d T v x k) (same_answer _ e e' step step') (found, counted_false _ (f.found found), λ j lj. counted_true _ (f.before j lj));
-        attacks = λ e' step' guest. absurd (both_ways (g.house v) guest house);
-        waits_house = λ house' some. absurd (omega arith);
-        waits_guest = λ guest. absurd (both_ways (g.house v) guest house);
-      }
-
-  pub planned_guest : (e k : ℕ) → d.step c (g.mark v) ≡ Some e → g.house v ≡ false → 1 < here → ((j : ℕ) → j < length (moves g v) → 0 < ahead g d.codes count v e j → Least g d.codes count v e (length (moves g v)) k) → Planned g d T v c k
-  planned_guest e k step guest more f = go here refl
+  -- a guest place with a count above 1 has a move to a count
+  some_counted : g.house v ≡ false → 1 < entry d.codes count v c → (k : ℕ) × (k < length (moves g v)) × (0 < ahead k)
+  some_counted guest more = go (entry d.codes count v c) refl
     where
-      go : (x : ℕ) → here ≡ x → Planned g d T v c k
+      go : (x : ℕ) → entry d.codes count v c ≡ x → (k : ℕ) × (k < length (moves g v)) × (0 < ahead k)
       go zero z = absurd (omega arith)
       go (suc r) is =
-          let le = (lawful.settled c (g.mark v) e step).2 in
-          let was = sym (counts v c lv lc) ∙ is in
-          let way = guest_true g d r v e guest (born g d end v c e r step was) in
-          let stays = given_later g d r end (get_or (moves g v) way.0 0) e (omega (arith, small g d end v c)) way.2 in
-          let some : 0 < ahead g d.codes count v e way.0 = omega (arith, way.2, stays, counts _ e (moves_inside g fit v way.0 lv way.1) le) in
-          let best = f way.0 way.1 some in
+          let way = guest_true g d r v e guest (born g d (positions g d) v c e r step (sym (counts v c lv lc) ∙ is)) in
+          let stays = given_later g d r (positions g d) (get_or (moves g v) way.0 0) e (omega (arith, small g d (positions g d) v c)) way.2 in
+          (way.0, way.1, omega (arith, way.2, stays, counts _ e (moves_inside g fit v way.0 lv way.1) (lawful.settled c (g.mark v) e step).2))
+
+  pub planned_house : g.house v ≡ true → entry d.codes count v c ≡ 0
+      → FitPlan g d count v c (unwrap_or (lowest ahead (length (moves g v)) 0) 8)
+  planned_house house z = go (lowest ahead (length (moves g v)) 0) refl
+    where
+      go : (o : Option ℕ) → lowest ahead (length (moves g v)) 0 ≡ o → FitPlan g d count v c (unwrap_or o 8)
+      go None is = let way = some_zero house z in absurd (lowest_none ahead (length (moves g v)) 0 is way.0 way.1 way.2)
+      go (Some k) is =
+          let low = lowest_some ahead (length (moves g v)) 0 k is in
+          record {
+            holds = λ e' step' house' z'. subst (λ (x : ℕ). LowestZero g d (table [] count) v x k) (same_answer _ e e' step step') (low.0, low.1, λ j lj. omega (arith, low.2 j lj));
+            attacks = λ e' step' guest. absurd (both_ways (g.house v) guest house);
+            waits_house = λ house' some. absurd (omega arith);
+            waits_guest = λ guest. absurd (both_ways (g.house v) guest house);
+          }
+
+  pub planned_guest : (n : ℕ) → g.house v ≡ false → 1 < entry d.codes count v c → least ahead (length (moves g v)) ≡ Some n
+      → FitPlan g d count v c (unwrap_or (lowest ahead (length (moves g v)) n) 8)
+  planned_guest n guest more smallest = go (lowest ahead (length (moves g v)) n) refl
+    where
+      go : (o : Option ℕ) → lowest ahead (length (moves g v)) n ≡ o → FitPlan g d count v c (unwrap_or o 8)
+      go None is = let least = least_some ahead (length (moves g v)) n smallest in absurd (lowest_none ahead (length (moves g v)) n is least.1.0 least.1.1 least.1.2)
+      go (Some k) is =
+          let least = least_some ahead (length (moves g v)) n smallest in
+          let low = lowest_some ahead (length (moves g v)) n k is in
           record {
             holds = λ e' step' house. absurd (both_ways (g.house v) guest house);
-            attacks = λ e' step' guest' more'. subst (λ (x : ℕ). LowestLeast g d T v x k) (same_answer _ e e' step step') (best.within, best.some, best.least, best.lowest);
+            attacks = λ e' step' guest' more'. subst (λ (x : ℕ). LowestLeast g d (table [] count) v x k) (same_answer _ e e' step step') (
+              low.0,
+              omega (arith, least.0, low.1),
+              λ j lj some. omega (arith, low.1, least.2 j lj some),
+              λ j lj some. omega (arith, low.1, low.2 j lj, least.2 j (omega (arith, low.0)) some),
+            );
             waits_house = λ house. absurd (both_ways (g.house v) guest house);
-            waits_guest = λ guest' low. absurd (omega arith);
+            waits_guest = λ guest' one. absurd (omega arith);
           }
+
+  pub planned_none : g.house v ≡ false → 1 < entry d.codes count v c → least ahead (length (moves g v)) ≡ None → ⊥
+  planned_none guest more none = let way = some_counted guest more in omega (arith, way.2, least_none ahead (length (moves g v)) none way.0 way.1)

@@ -3,11 +3,15 @@ use Rattle.std.specs.Prelude.{◌≡◌, ℕ, ◌<◌, List, [], length, drop}
 use Rattle.game.specs.Graph.{Graph}
 use Rattle.game.specs.Rule.{Rule}
 use Rattle.game.specs.Rounds.{positions}
-use Rattle.game.specs.Table.{table, Room, Planned, Solved, Verdict}
+use Rattle.game.specs.Table.{entry, table, Room, Planned, Solved, Verdict}
 
 -- b is the plan byte of the position (v, c), by the counts alone
 abbrev pub FitPlan : Graph → Rule → List ℕ → ℕ → ℕ → ℕ → Type 0
 FitPlan g d count v c b = Planned g d (table [] count) v c b
+
+-- the list holds the plan bytes that these counts ask for
+abbrev pub FitsPlan : Graph → Rule → List ℕ → List ℕ → Type 0
+FitsPlan g d count plan = (v c : ℕ) → v < g.size → c < d.codes → FitPlan g d count v c (entry d.codes plan v c)
 
 module _ (g : Graph) (d : Rule) where
   -- the buffers held plan and count, with room for every position, and now hold plan' and count'

@@ -1,103 +1,32 @@
 // The counts, by rounds.
-ghost use Rattle.std.specs.Prelude.{◌≡◌, ℕ, ◌+◌, ◌*◌, ◌<◌, ◌≤◌, true, false, length, slice_index};
-ghost use Rattle.game.specs.Rounds.{positions, attracted, Quiet};
-ghost use Rattle.game.specs.Table.{entry};
-ghost use Rattle.solver.specs.Rows.{Tail, Rows};
-ghost use Rattle.solver.specs.Moves.{Within};
-ghost use Rattle.solver.specs.Rounds.{Counts, Finished, gains_at, settled, Flagged, Settled, Due, DueRows};
+ghost use Rattle.std.specs.Prelude.{◌≡◌, ◌+◌, ◌<◌, ◌≤◌, true, false, length};
+ghost use Rattle.game.specs.Rounds.{positions, Quiet};
+ghost use Rattle.solver.specs.Rounds.{flag, settled, is_due, AfterRounds, Finished};
 
-use crate::moving::{all_counted, some_counted};
-use game::{Duty, Map, Side, position_count};
+use crate::position::Position;
+use crate::rows::{fill, index};
+use game::{Duty, Map, position_count};
 
-// Whether place v gets a count from the counts where its moves lead, at code e.
-fn attracts<M: Map>(map: &M, s: u8, count: &[u16], v: u8, e: u8) -> bool
-    requires { Within (M.graph map.now) s count.now v e }
-    ensures { result ≡ attracted (M.graph map.now) v (λ t. entry s count.now t e) }
-{
-    match map.side(v) {
-        Side::House => all_counted(map, s, count, v, e),
-        Side::Guest => some_counted(map, s, count, v, e),
-    }
-}
-
-// Whether a position without a count gets one from the counts so far.
-fn gains<M: Map, D: Duty>(map: &M, duty: &D, count: &[u16], v: u8, c: u8) -> bool
-    requires on { v < (M.graph map.now).size }
+// 1 if the next round counts a position, and else 0.
+fn flag<M: Map, D: Duty>(map: &M, duty: &D, count: &[u16], place: u8, code: u8) -> u8
     requires room { positions (M.graph map.now) (D.rule duty.now) ≤ length count.now }
-    ensures { result ≡ gains_at (M.graph map.now) (D.rule duty.now) count.now v c }
+    requires on { place < (M.graph map.now).size }
+    requires coded { code < (D.rule duty.now).codes }
+    ensures { result ≡ flag (is_due (M.graph map.now) (D.rule duty.now) count.now place code) }
 {
-    match duty.step(c, map.mark(v)) {
-        None => true,
-        Some(e) => attracts(map, duty.codes(), count, v, e),
-    }
+    u8::from(Position::new(map, duty, count, place, code).is_due())
 }
 
-// Flags by 1, in place v's row, the codes that gain a count, and the others by 0.
-fn flag_row<M: Map, D: Duty>(map: &M, duty: &D, count: &[u16], v: u8, row: &mut [u8])
-    requires on { v < (M.graph map.now).size }
-    requires room { positions (M.graph map.now) (D.rule duty.now) ≤ length count.now }
-    requires width { length row.old ≡ (D.rule duty.now).codes }
-    ensures { (c : ℕ) → c < (D.rule duty.now).codes →
-        Flagged (M.graph map.now) (D.rule duty.now) count.now v c (slice_index row.new c) }
+// What a count is after round r: the flagged ones are given r.
+fn settled(r: u16, flag: u8, n: u16) -> u16
+    ensures { result ≡ settled r flag n }
 {
-    for c in 0..duty.codes() {
-        row[c as usize] = if gains(map, duty, count, v, c) { 1 } else { 0 };
-    }
+    if flag == 1 { r } else { n }
 }
 
-// Flags what the next round counts. The plan buffer holds the flags, since no plan is written yet; the counts are only read.
-fn flag_rows<M: Map, D: Duty>(map: &M, duty: &D, count: &[u16], plan: &mut [u8])
-    requires plans { positions (M.graph map.now) (D.rule duty.now) ≤ length plan.old }
-    requires counts { positions (M.graph map.now) (D.rule duty.now) ≤ length count.now }
-    ensures { Rows (M.graph map.now).size (D.rule duty.now).codes
-        (Flagged (M.graph map.now) (D.rule duty.now) count.now)
-        plan.old plan.new }
-{
-    let s = duty.codes() as usize;
-    for v in 0..map.size() {
-        let at = v as usize * s;
-        flag_row(map, duty, count, v, &mut plan[at..at + s]);
-    }
-}
-
-// Gives r to the flagged entries of a row that have no count, and answers whether there was one.
-fn settle_row(r: u16, flags: &[u8], row: &mut [u16]) -> bool
-    requires { length flags.now ≡ length row.old }
-    ensures each { (c : ℕ) → c < length row.old →
-        slice_index row.new c ≡ settled r (slice_index flags.now c) (slice_index row.old c) }
-    ensures none { result ≡ false → row.new ≡ row.old }
-    ensures some { result ≡ true → Due flags.now row.old (length row.old) }
-{
-    let mut gave = false;
-    for c in 0..row.len() {
-        if row[c] == 0 && flags[c] == 1 {
-            row[c] = r;
-            gave = true;
-        }
-    }
-    gave
-}
-
-// Gives r to what is flagged and has no count, row by row, and answers whether there was any.
-fn settle_rows(n: u8, s: u8, r: u16, flags: &[u8], count: &mut [u16]) -> bool
-    requires plans { n * s ≤ length flags.now }
-    requires counts { n * s ≤ length count.old }
-    ensures rows { Rows n s (Settled r s flags.now count.old) count.old count.new }
-    ensures none { result ≡ false → count.new ≡ count.old }
-    ensures some { result ≡ true → DueRows s flags.now count.old n }
-{
-    let width = s as usize;
-    let mut gave = false;
-    for v in 0..n {
-        let at = v as usize * width;
-        if settle_row(r, &flags[at..at + width], &mut count[at..at + width]) {
-            gave = true;
-        }
-    }
-    gave
-}
-
-// One round after those done, and whether it gave anything.
+// One round after those done, and whether it gave anything. First every position that is due is flagged by 1, by the counts
+// as they stand, and the others by 0; then what is flagged is given the round's number. So no round reads a count that it
+// has given. The plan buffer holds the flags, since no plan is written yet.
 fn count_round<M: Map, D: Duty>(
     map: &M,
     duty: &D,
@@ -106,45 +35,41 @@ fn count_round<M: Map, D: Duty>(
     count: &mut [u16],
 ) -> bool
     requires few { done < 31872 }
-    requires plans { positions (M.graph map.now) (D.rule duty.now) ≤ length plan.old }
-    requires counts { positions (M.graph map.now) (D.rule duty.now) ≤ length count.old }
-    requires stand { Counts (M.graph map.now) (D.rule duty.now) done count.old }
-    ensures given { Counts (M.graph map.now) (D.rule duty.now) (done + 1) count.new }
+    requires plans { length plan.old ≡ positions (M.graph map.now) (D.rule duty.now) }
+    requires counts { length count.old ≡ positions (M.graph map.now) (D.rule duty.now) }
+    requires stand { AfterRounds (M.graph map.now) (D.rule duty.now) done count.old }
+    ensures given { AfterRounds (M.graph map.now) (D.rule duty.now) (done + 1) count.new }
     ensures quiet { result ≡ false → Quiet (M.graph map.now) (D.rule duty.now) done }
     ensures loud { result ≡ true → Quiet (M.graph map.now) (D.rule duty.now) done → ⊥ }
-    ensures plans { Tail (positions (M.graph map.now) (D.rule duty.now))
-        plan.old plan.new }
-    ensures counts { Tail (positions (M.graph map.now) (D.rule duty.now))
-        count.old count.new }
 {
-    flag_rows(map, duty, count, plan);
-    settle_rows(map.size(), duty.codes(), done + 1, plan, count)
-}
-
-// Takes the counts off the first n entries.
-fn clear(count: &mut [u16], n: u16)
-    requires { n ≤ length count.old }
-    ensures none { (k : ℕ) → k < n → slice_index count.new k ≡ 0 }
-    ensures rest { Tail n count.old count.new }
-{
-    for k in 0..n as usize {
-        count[k] = 0;
-    }
+    let places = map.size();
+    let codes = duty.codes();
+    let before = &*count;
+    fill(
+        places,
+        codes,
+        plan,
+        |place, code, _| flag(map, duty, before, place, code),
+    );
+    let flags = &*plan;
+    fill(
+        places,
+        codes,
+        count,
+        |place, code, n| settled(done + 1, flags[index(codes, place, code)], n),
+    );
+    flags.contains(&1)
 }
 
 // The counts, by rounds up to the first that gives nothing.
+#[tactic(auto, using(crate::proofs::Round::given_none))]
 pub(crate) fn count_all<M: Map, D: Duty>(map: &M, duty: &D, plan: &mut [u8], count: &mut [u16])
-    requires plans { positions (M.graph map.now) (D.rule duty.now) ≤ length plan.old }
-    requires counts { positions (M.graph map.now) (D.rule duty.now) ≤ length count.old }
-    ensures given { Finished (M.graph map.now) (D.rule duty.now) count.new }
-    ensures plans { Tail (positions (M.graph map.now) (D.rule duty.now))
-        plan.old plan.new }
-    ensures counts { Tail (positions (M.graph map.now) (D.rule duty.now))
-        count.old count.new }
+    requires plans { length plan.old ≡ positions (M.graph map.now) (D.rule duty.now) }
+    requires counts { length count.old ≡ positions (M.graph map.now) (D.rule duty.now) }
+    ensures { Finished (M.graph map.now) (D.rule duty.now) count.new }
 {
-    let most = position_count(map, duty);
-    clear(count, most);
-    for done in 0..most {
+    count.fill(0);
+    for done in 0..position_count(map, duty) {
         if !count_round(map, duty, done, plan, count) {
             return;
         }

@@ -6,8 +6,9 @@ ghost use Rattle.game.specs.declared.Refusal.TheVariants.{Short};
 ghost use Rattle.solver.specs.Solve.{Solves, ShortOf};
 
 mod counting;
-mod moving;
 mod planning;
+mod position;
+mod rows;
 
 use counting::count_all;
 use game::{Duty, Map, Refusal, position_count};
@@ -30,6 +31,8 @@ pub fn solve<M: Map, D: Duty>(
     if plan.len() < most || count.len() < most {
         return Err(Refusal::Short);
     }
+    let plan = &mut plan[..most];
+    let count = &mut count[..most];
     count_all(map, duty, plan, count);
     plan_all(map, duty, count, plan);
     Ok(())
