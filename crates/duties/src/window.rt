@@ -1,7 +1,8 @@
 // The window duty: among every `bound` successive marks one closes, being even and the lowest from the first on.
-ghost use Rattle.std.specs.Prelude.{◌≡◌, ℕ, ◌<◌, ◌≤◌, List, MatchResult};
+ghost use Rattle.std.specs.Prelude.{◌≡◌, ℕ, ◌<◌, ◌≤◌, ◌↔◌, List, IsTrue, IsNone, IfSome, MatchResult};
+ghost use Rattle.game.specs.Parity.{is_odd};
 ghost use Rattle.game.specs.declared.Refusal.TheVariants.{Limits};
-ghost use Rattle.meanings.specs.Window.{WindowLimits, window, codes, low_of, count_of, code_at, closes_at};
+ghost use Rattle.meanings.specs.Window.{WindowLimits, window, codes, low_of, count_of, code_at};
 ghost use Rattle.meanings.specs.WindowCode.{WindowCode};
 ghost use Rattle.meanings.proofs.Windows.{window_lawful};
 
@@ -10,69 +11,59 @@ use game::{Duty, Refusal, is_odd};
 // The code that says that no window is open.
 const CLOSED: u8 = 0;
 
-// Stands for the lowest mark where no window is open: above every mark.
-const ABOVE: u8 = 16;
-
-#[derive(Clone, Copy, Debug)]
+#[derive(Clone, Copy, Debug, PartialEq, Eq)]
 pub struct Window {
     bound: u8,
     ghost limits: { WindowLimits bound },
 }
 
+// The earliest window still open: the lowest of its marks so far, and how many they are.
+#[derive(Clone, Copy, Debug, PartialEq, Eq)]
+struct Open {
+    low: u8,
+    count: u8,
+    ghost odd: { IsTrue (is_odd low) },
+    ghost highest: { low ≤ 15 },
+    ghost some: { 1 ≤ count },
+}
+
 impl Window {
-    // The window duty of this bound, from 1 to 32.
+    // The window duty of this bound, from 1 to 32. Queue::new of maps tests its own limits in a like line, and a generic test
+    // of both would be no shorter.
     pub fn new(bound: u8) -> Result<Window, Refusal>
         ensures { MatchResult result
             (λ w. (w.bound ≡ bound) × WindowLimits bound × ((ms : List ℕ) → WindowCode w.bound ms))
             (λ e. (e ≡ Limits) × (WindowLimits bound → ⊥)) }
     {
-        if bound < 1 || bound > 32 {
-            return Err(Refusal::Limits);
+        if (1..=32).contains(&bound) {
+            Ok(Window { bound })
+        } else {
+            Err(Refusal::Limits)
         }
-        Ok(Window { bound })
     }
 
-    // The lowest mark of the earliest open window, or ABOVE.
-    fn low(&self, code: u8) -> u8
+    // What a code says of the earliest open window; None where none is open.
+    fn earliest_open(&self, code: u8) -> Option<Open>
         requires { code < codes self.now.bound }
-        ensures { result ≡ low_of self.now.bound code }
+        ensures none { IsNone result ↔ (code ≡ CLOSED) }
+        ensures low { IfSome result (λ earliest. earliest.low ≡ low_of self.now.bound code) }
+        ensures count { IfSome result (λ earliest. earliest.count ≡ count_of self.now.bound code) }
     {
         if code == CLOSED {
-            ABOVE
-        } else {
-            2 * ((code - 1) / (self.bound - 1)) + 1
+            return None;
         }
+        let low = 2 * ((code - 1) / (self.bound - 1)) + 1;
+        let count = (code - 1) % (self.bound - 1) + 1;
+        Some(Open { low, count })
     }
 
-    // Its number of marks; 0 where none is open.
-    fn count(&self, code: u8) -> u8
-        requires { code < codes self.now.bound }
-        ensures { result ≡ count_of self.now.bound code }
+    // The code where this window is the earliest open one.
+    fn code(&self, earliest: Open) -> u8
+        requires { earliest.count < self.now.bound }
+        ensures { result ≡ code_at self.now.bound earliest.low earliest.count }
     {
-        if code == CLOSED {
-            0
-        } else {
-            (code - 1) % (self.bound - 1) + 1
-        }
+        1 + (earliest.low - 1) / 2 * (self.bound - 1) + (earliest.count - 1)
     }
-
-    // The code of an open window.
-    fn code_at(&self, low: u8, count: u8) -> u8
-        requires lowest { 1 ≤ low }
-        requires highest { low ≤ 15 }
-        requires counted { 1 ≤ count }
-        requires open { count < self.now.bound }
-        ensures { result ≡ code_at self.now.bound low count }
-    {
-        1 + (low - 1) / 2 * (self.bound - 1) + (count - 1)
-    }
-}
-
-// Whether a mark closes a window whose lowest mark so far is `low`.
-fn closes(low: u8, mark: u8) -> bool
-    ensures { result ≡ closes_at low mark }
-{
-    !is_odd(mark) && mark <= low
 }
 
 impl Duty for Window {
@@ -92,15 +83,21 @@ impl Duty for Window {
         if code >= self.codes() || mark > 15 {
             return None;
         }
-        let low = self.low(code);
-        if closes(low, mark) {
+        // A mark that closes the earliest open window closes every later one too, its own among them.
+        let earliest = self.earliest_open(code);
+        if !is_odd(mark) && earliest.is_none_or(|open| mark <= open.low) {
             return Some(CLOSED);
         }
-        let count = self.count(code) + 1;
-        if count < self.bound {
-            Some(self.code_at(low.min(mark), count))
-        } else {
-            None
-        }
+        let longer = match earliest {
+            Some(open) => Open {
+                low: open.low.min(mark),
+                count: open.count + 1,
+            },
+            None => Open {
+                low: mark,
+                count: 1,
+            },
+        };
+        (longer.count < self.bound).then(|| self.code(longer))
     }
 }
