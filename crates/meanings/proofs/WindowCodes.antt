@@ -1,66 +1,53 @@
 -- The window duty's codes say of every list what their law asks.
 use Rattle.std.proofs.Common.{◌≡◌, ℕ, zero, suc, ◌+◌, ◌-◌, ◌<◌, ◌≤◌, min, true, false, ◌⊎◌, List, [], ◌∷◌, length, get_or, drop, sym, refl, ap, ◌∙◌, subst, inl, inr, ⊎_elim, arith, length-drop, get_or-drop}
-use Rattle.std.proofs.lemmas.Bool.{cases_Bool, cases_lt, both_ways, or_parts}
-use Rattle.game.specs.Parity.{Even, Odd, is_even}
+use Rattle.std.proofs.lemmas.Bool.{cases_lt, both_ways, or_parts, false_from_ne_true}
+use Rattle.game.specs.Parity.{Odd, is_even}
 use Rattle.game.proofs.Parities.{odd_if}
 use Rattle.meanings.specs.Window.{closed_below, is_closed, lowest, code_at, code_of_open, code}
 use Rattle.meanings.specs.WindowCode.{ClosedFrom, AllClosed, EarliestOpen, WindowCode}
 use Rattle.meanings.proofs.Earliest.{OpensAt, none_open, earliest, first_open}
-use Rattle.meanings.proofs.Closings.{window_finds, window_found, lowest_le, lowest_odd}
+use Rattle.meanings.proofs.Closings.{PartAt, closed_closes, closes_closed, lowest_le, lowest_odd}
 
 -- ## Closed and open from a place on
 
+rest_part : (ms : List ℕ) (i : ℕ) → PartAt (drop i ms) ms i
+rest_part ms i k h = get_or-drop i ms k 0
+
 from_closed : (ms : List ℕ) (i : ℕ) → ClosedFrom ms i → is_closed (drop i ms) ≡ true
-from_closed ms i (l, under, c) =
-    let long = length-drop i ms in
-    let at = get_or-drop i ms l 0 in
-    window_found (drop i ms) l (omega arith) (subst Even (sym at) c.0) (λ k d. omega (arith, at, get_or-drop i ms k 0, c.1 k d))
+from_closed ms i (l, under, c) = closes_closed (drop i ms) ms i (rest_part ms i) l (omega (arith, length-drop i ms)) c
 
 closed_from : (ms : List ℕ) (i : ℕ) → i < length ms → is_closed (drop i ms) ≡ true → ClosedFrom ms i
 closed_from ms i h t =
     let long = length-drop i ms in
-    let r = window_finds (drop i ms) (omega arith) t in
-    let l = r.0 in
-    let under = r.1 in
-    let at = get_or-drop i ms l 0 in
-    (l, omega arith, (subst Even at r.2.0, λ k d. omega (arith, at, get_or-drop i ms k 0, r.2.1 k d)))
+    let r = closed_closes (drop i ms) ms i (rest_part ms i) (omega arith) t in
+    (r.0, omega (arith, r.1), r.2)
 
 from_unclosed : (ms : List ℕ) (i : ℕ) → i < length ms → (ClosedFrom ms i → ⊥) → is_closed (drop i ms) ≡ false
-from_unclosed ms i h un = ⊎_elim (λ t. absurd (un (closed_from ms i h t))) (λ f. f) (cases_Bool (is_closed (drop i ms)))
+from_unclosed ms i h un = false_from_ne_true (is_closed (drop i ms)) (λ t. un (closed_from ms i h t))
 
 -- ## The lowest mark
 
-lowest_among : (low : ℕ) (ms : List ℕ) (k : ℕ) → k < length ms → lowest low ms ≤ get_or ms k 0
-lowest_among low [] k h = absurd (omega arith)
-lowest_among low (m ∷ ms) zero h = omega (arith, lowest_le (min low m) ms)
-lowest_among low (m ∷ ms) (suc k) h = lowest_among (min low m) ms k (omega arith)
+lowest_least : (low : ℕ) (ms : List ℕ) (k : ℕ) → k < length (low ∷ ms) → lowest low ms ≤ get_or (low ∷ ms) k 0
+lowest_least low ms zero h = lowest_le low ms
+lowest_least low [] (suc k) h = absurd (omega arith)
+lowest_least low (m ∷ ms) (suc zero) h = omega (arith, lowest_le (min low m) ms)
+lowest_least low (m ∷ ms) (suc (suc k)) h = lowest_least (min low m) ms (suc k) (omega arith)
 
-lowest_over : (low : ℕ) (ms : List ℕ) (v : ℕ) → v ≤ low → ((k : ℕ) → k < length ms → v ≤ get_or ms k 0) → v ≤ lowest low ms
-lowest_over low [] v h each = h
-lowest_over low (m ∷ ms) v h each = lowest_over (min low m) ms v (omega (arith, each 0 (omega arith))) (λ k l. each (suc k) (omega arith))
-
-at_least : (x : ℕ) (w : List ℕ) (k : ℕ) → k < length (x ∷ w) → lowest x w ≤ get_or (x ∷ w) k 0
-at_least x w zero h = lowest_le x w
-at_least x w (suc k) h = lowest_among x w k (omega arith)
+lowest_seen : (low : ℕ) (ms : List ℕ) → (l : ℕ) × (l < length (low ∷ ms)) × (get_or (low ∷ ms) l 0 ≡ lowest low ms)
+lowest_seen low ms = ⊎_elim (λ e. (0, omega arith, sym e)) (λ r. (suc r.0, omega (arith, r.1), r.2)) (first_or_later low ms)
+  where
+    first_or_later : (low : ℕ) (ms : List ℕ) → (lowest low ms ≡ low) ⊎ ((k : ℕ) × (k < length ms) × (get_or ms k 0 ≡ lowest low ms))
+    first_or_later low [] = inl refl
+    first_or_later low (m ∷ ms) =
+        ⊎_elim
+        (λ e. ⊎_elim (λ less. inl (omega arith)) (λ more. inr (0, omega arith, omega arith)) (cases_lt low m))
+        (λ r. inr (suc r.0, omega (arith, r.1), r.2))
+        (first_or_later (min low m) ms)
 
 -- a mark that no other is below is the lowest one
 lowest_same : (x : ℕ) (w : List ℕ) (low l : ℕ) → l < length (x ∷ w) → get_or (x ∷ w) l 0 ≡ low
     → ((k : ℕ) → k < length (x ∷ w) → low ≤ get_or (x ∷ w) k 0) → lowest x w ≡ low
-lowest_same x w low l h is each =
-    let over = lowest_over x w low (each 0 (omega arith)) (λ k d. each (suc k) (omega arith)) in
-    omega (arith, at_least x w l h)
-
--- .. and the lowest one stands somewhere
-lowest_seen : (x : ℕ) (w : List ℕ) → (l : ℕ) × (l < length (x ∷ w)) × (get_or (x ∷ w) l 0 ≡ lowest x w)
-lowest_seen x w = ⊎_elim (λ e. (0, omega arith, sym e)) (λ r. (suc r.0, omega (arith, r.1), r.2)) (either_where x w)
-  where
-    either_where : (low : ℕ) (ms : List ℕ) → (lowest low ms ≡ low) ⊎ ((k : ℕ) × (k < length ms) × (get_or ms k 0 ≡ lowest low ms))
-    either_where low [] = inl refl
-    either_where low (m ∷ ms) =
-        ⊎_elim
-        (λ e. ⊎_elim (λ less. inl (omega arith)) (λ more. inr (0, omega arith, omega arith)) (cases_lt low m))
-        (λ r. inr (suc r.0, omega (arith, r.1), r.2))
-        (either_where (min low m) ms)
+lowest_same x w low l h is each = let r = lowest_seen x w in omega (arith, lowest_least x w l h, r.2, each r.0 r.1)
 
 -- ## The law
 
@@ -81,10 +68,8 @@ module _ (b : ℕ) (ms : List ℕ) where
       let l = o.seen.0 in
       let under = o.seen.1 in
       let same = lowest_same x w low l (omega arith) (at i (x ∷ w) e l ∙ o.seen.2) (λ k d. omega (arith, at i (x ∷ w) e k, o.least k (omega arith))) in
-      let p = or_parts (is_even x) (closed_below x w) (sym (ap is_closed e) ∙ from_unclosed ms i o.within o.unclosed) in (
-        ap (λ (n : ℕ). code_at b n (length (x ∷ w))) same ∙ ap (code_at b low) many,
-        subst Odd same (odd_if (lowest x w) (lowest_odd x w p.0 p.1)),
-      )
+      let p = or_parts (is_even x) (closed_below x w) (sym (ap is_closed e) ∙ from_unclosed ms i o.within o.unclosed) in
+      (cc, subst Odd same (odd_if (lowest x w) (lowest_odd x w p.0 p.1)))
 
   coded : (i low : ℕ) → EarliestOpen ms i low → code b ms ≡ code_at b low (length ms - i)
   coded i low o =
@@ -104,7 +89,7 @@ module _ (b : ℕ) (ms : List ℕ) where
           unclosed = λ c. both_ways (is_closed (drop i ms)) f (from_closed ms i c);
           first = λ j d. closed_from ms j (omega arith) (each j d);
           seen = (r.0, omega arith, sym (at i (x ∷ w) e r.0) ∙ r.2);
-          least = λ k d. omega (arith, at i (x ∷ w) e k, at_least x w k (omega arith));
+          least = λ k d. omega (arith, at i (x ∷ w) e k, lowest_least x w k (omega arith));
         },
       )
 
