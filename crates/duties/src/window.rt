@@ -28,8 +28,8 @@ struct Open {
 }
 
 impl Window {
-    // The window duty of this bound, from 1 to 32. Queue::new of maps tests its own limits in a like line, and a generic test
-    // of both would be no shorter.
+    // The window duty of this bound, from 1 to 32.
+    // Not shared with Queue::new of maps: what they have in common is the one test, and that is a call of the library.
     pub fn new(bound: u8) -> Result<Window, Refusal>
         ensures { MatchResult result
             (λ w. (w.bound ≡ bound) × WindowLimits bound × ((ms : List ℕ) → WindowCode w.bound ms))

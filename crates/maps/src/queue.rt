@@ -22,8 +22,8 @@ struct Turn {
 }
 
 impl Queue {
-    // The queue of this capacity, from 1 to 63. Window::new of duties tests its own limits in a like line, and a generic test
-    // of both would be no shorter.
+    // The queue of this capacity, from 1 to 63.
+    // Not shared with Window::new of duties: what they have in common is the one test, and that is a call of the library.
     #[tactic(auto, using(meanings::proofs::Queues::queue_says))]
     pub fn new(capacity: u8) -> Result<Queue, Refusal>
         ensures { MatchResult result
