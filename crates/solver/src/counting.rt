@@ -7,7 +7,7 @@ use crate::position::Position;
 use crate::rows::{fill, index};
 use game::{Duty, Map, position_count};
 
-// 1 if the next round counts a position, and else 0.
+// 1 if the next round counts a position, and else 0. It takes a position's parts, as plan_byte does.
 fn flag<M: Map, D: Duty>(map: &M, duty: &D, count: &[u16], place: u8, code: u8) -> u8
     requires room { positions (M.graph map.now) (D.rule duty.now) ≤ length count.now }
     requires on { place < (M.graph map.now).size }
@@ -61,7 +61,7 @@ fn count_round<M: Map, D: Duty>(
     flags.contains(&1)
 }
 
-// The counts, by rounds up to the first that gives nothing.
+// The counts, by rounds up to the first that gives nothing. The loop counts rounds, and no index: each is told its number.
 #[tactic(auto, using(crate::proofs::Round::given_none))]
 pub(crate) fn count_all<M: Map, D: Duty>(map: &M, duty: &D, plan: &mut [u8], count: &mut [u16])
     requires plans { length plan.old ≡ positions (M.graph map.now) (D.rule duty.now) }

@@ -8,10 +8,11 @@ use crate::position::Position;
 use crate::rows::fill;
 use game::{Duty, Map};
 
-// A plan byte that names no way.
+// A plan byte that names no way. A lent table holds bytes, so None is told by a number there.
 const NO_WAY: u8 = 8;
 
-// The plan byte that finished counts ask for at a position.
+// The plan byte that finished counts ask for at a position. It takes a position's parts: of a closure that makes the
+// position first, the check does not infer what a second call asks.
 fn plan_byte<M: Map, D: Duty>(map: &M, duty: &D, count: &[u16], place: u8, code: u8) -> u8
     requires room { positions (M.graph map.now) (D.rule duty.now) ≤ length count.now }
     requires on { place < (M.graph map.now).size }

@@ -9,7 +9,8 @@ pub(crate) fn index(codes: u8, v: u8, c: u8) -> usize
     v as usize * codes as usize + c as usize
 }
 
-// Gives each entry of a table the value that `entry` answers of its place, its code and what it held.
+// Gives each entry of a table the value that `entry` answers of its place, its code and what it held. Each row is lent by its
+// bounds: of a chunk of `chunks_exact_mut` the proof knows no value after it was lent.
 pub(crate) fn fill<T: Copy, F: Fn(u8, u8, T) -> T>(places: u8, codes: u8, table: &mut [T], entry: F)
     requires callable { (v c : ℕ) (x : T) → v < places → c < codes → F.pre entry v c x }
     requires whole { length table.old ≡ places * codes }
