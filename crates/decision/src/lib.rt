@@ -51,7 +51,8 @@ impl Declined {
         }
     }
 
-    // The line of the text, from 1 on; 0 where no line is at fault.
+    // The line of the text, from 1 on; 0 where no line is at fault. It is no Option, and neither is the field: a refusal is
+    // told by three numbers, and 0 is what it says there.
     pub fn line(self) -> usize
         ensures { result ≡ line_of self }
     {
@@ -121,7 +122,8 @@ fn decide_in(
 }
 
 // Writes the listing of the text's job at the start of the space and answers its length; or declines, and the space is
-// as it was. A text's fault comes before a space that is too small.
+// as it was. A text's fault comes before a space that is too small. The space is lent and the tables are arrays: the C
+// call has no allocator, and hands in a space and takes a length.
 pub fn decide(text: &[u8], space: &mut [u8]) -> Result<usize, Declined>
     ensures { MatchResult result
         (Decides text.now space.old space.new)

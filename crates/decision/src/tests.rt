@@ -13,9 +13,7 @@ fn gives(rt: &(impl Abort + AllocGlobal), text: &[u8], wanted: &[u8]) -> Result<
         return Err(Fail::new("declined"));
     };
     assert!(rt; &space[0..long] == wanted);
-    for byte in &space[long..] {
-        assert!(rt; *byte == FILL);
-    }
+    assert!(rt; space[long..].iter().all(|byte| *byte == FILL));
     Ok(())
 }
 
@@ -35,9 +33,7 @@ fn declines(
     assert_eq!(rt; declined.number(), number);
     assert_eq!(rt; declined.line(), line);
     assert_eq!(rt; declined.field(), field);
-    for byte in &space {
-        assert!(rt; *byte == FILL);
-    }
+    assert!(rt; space.iter().all(|byte| *byte == FILL));
     Ok(())
 }
 

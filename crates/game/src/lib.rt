@@ -132,7 +132,8 @@ pub trait Duty {
         ensures { result ≡ (rule self.now).step c m };
 }
 
-// How many positions there are: places times codes, at most 31,872.
+// How many positions there are: places times codes, at most 31,872. Calls take a map and a duty and not a pair: no caller
+// has one, and it would be made only to be passed on.
 pub fn position_count<M: Map, D: Duty>(map: &M, duty: &D) -> u16
     ensures { result ≡ positions (M.graph map.now) (D.rule duty.now) }
 {
