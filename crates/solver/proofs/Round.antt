@@ -11,7 +11,7 @@ use Rattle.game.specs.Table.{entry}
 use Rattle.game.proofs.Moves.{moves_inside, any_true, any_false}
 use Rattle.game.proofs.Rounds.{kept, new, none_one, small}
 use Rattle.game.proofs.Ends.{quiet_rounds}
-use Rattle.solver.specs.Rounds.{gains, gains_at, is_due, AfterRounds, Finished}
+use Rattle.solver.specs.Rounds.{gains, gains_at, is_due, Counts, Finished}
 use Rattle.solver.proofs.Moves.{gains_same}
 
 -- an entry of the map lies within the table
@@ -20,7 +20,7 @@ entry_in n s v c lv lc = let rows : (v + 1) * s ≤ n * s = mul-le-mul_right s (
 
 module _ (g : Graph) (d : Rule) (fit : Fit g) (lawful : Lawful d) where
   -- what is gained by a table that holds the first r rounds' counts
-  gains_given : (r : ℕ) (count : List ℕ) → AfterRounds g d r count → (v c : ℕ) → v < g.size
+  gains_given : (r : ℕ) (count : List ℕ) → Counts g d r count → (v c : ℕ) → v < g.size
       → gains_at g d count v c ≡ gains g v (given g d r) (d.step c (g.mark v))
   gains_given r count stand v c lv =
       gains_same g v (entry d.codes count) (given g d r) (d.step c (g.mark v))
@@ -33,7 +33,7 @@ module _ (g : Graph) (d : Rule) (fit : Fit g) (lawful : Lawful d) where
   fresh_is r v c (Some e) is z = refl
 
   -- what is due is counted by the next round, and nothing else changes
-  due_given : (r : ℕ) (count : List ℕ) → AfterRounds g d r count → (v c : ℕ) → v < g.size → c < d.codes
+  due_given : (r : ℕ) (count : List ℕ) → Counts g d r count → (v c : ℕ) → v < g.size → c < d.codes
       → given g d (suc r) v c ≡ cond (is_due g d count v c) (suc r) (entry d.codes count v c)
   due_given r count stand v c lv lc = go (given g d r v c) refl
     where
@@ -50,11 +50,11 @@ module _ (g : Graph) (d : Rule) (fit : Fit g) (lawful : Lawful d) where
           let not_due : is_due g d count v c ≡ false = ap (λ (b : Bool). b && gains_at g d count v c) (ne_eqb (entry d.codes count v c) 0 (λ none. absurd (omega arith))) in
           kept g d r v c k s ∙ sym some ∙ sym (cond-false (is_due g d count v c) (suc r) (entry d.codes count v c) not_due)
 
-  module _ (r : ℕ) (count flags after : List ℕ) (stand : AfterRounds g d r count)
+  module _ (r : ℕ) (count flags after : List ℕ) (stand : Counts g d r count)
       (flagged : (v c : ℕ) → v < g.size → c < d.codes → entry d.codes flags v c ≡ cond (is_due g d count v c) 1 0)
       (settled : (v c : ℕ) → v < g.size → c < d.codes → entry d.codes after v c ≡ cond (eqb (entry d.codes flags v c) 1) (r + 1) (entry d.codes count v c)) where
     -- flags for what is due, then counts settled by the flags: a round
-    pub round_counts : AfterRounds g d (r + 1) after
+    pub round_counts : Counts g d (r + 1) after
     round_counts v c lv lc =
         settled v c lv lc
         ∙ ap (λ (f : ℕ). cond (eqb f 1) (r + 1) (entry d.codes count v c)) (flagged v c lv lc)
@@ -96,7 +96,7 @@ module _ (g : Graph) (d : Rule) (fit : Fit g) (lawful : Lawful d) where
       go (suc k) s = kept g d r v c k s ∙ sym s
 
   -- the rounds end at the first that gives nothing
-  pub rounds_end : (r : ℕ) (count : List ℕ) → Quiet g d r → AfterRounds g d (r + 1) count → Finished g d count
+  pub rounds_end : (r : ℕ) (count : List ℕ) → Quiet g d r → Counts g d (r + 1) count → Finished g d count
   rounds_end r count quiet stand v c lv lc = stand v c lv lc ∙ same_next r v c lv lc quiet ∙ quiet_rounds g d fit lawful r v c quiet lv lc
 
 -- no round has given anything yet

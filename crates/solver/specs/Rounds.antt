@@ -1,4 +1,5 @@
--- One round over lists.
+-- One round over lists: first every position that is due is flagged, by the counts as they stand; then what is flagged is
+-- given the round's number. So no round reads a count that it has given.
 use Rattle.std.specs.Prelude.{◌≡◌, ℕ, ◌<◌, Bool, true, cond, ◌&&◌, ◌==◌, List, Some, None, Option}
 use Rattle.game.specs.Graph.{Graph}
 use Rattle.game.specs.Rule.{Rule}
@@ -6,8 +7,8 @@ use Rattle.game.specs.Rounds.{attracted, given, rounds}
 use Rattle.game.specs.Table.{entry}
 
 -- the list holds the counts of the first r rounds
-abbrev pub AfterRounds : Graph → Rule → ℕ → List ℕ → Type 0
-AfterRounds g d r count = (v c : ℕ) → v < g.size → c < d.codes → entry d.codes count v c ≡ given g d r v c
+abbrev pub Counts : Graph → Rule → ℕ → List ℕ → Type 0
+Counts g d r count = (v c : ℕ) → v < g.size → c < d.codes → entry d.codes count v c ≡ given g d r v c
 
 -- the list holds the counts that the rounds end with
 abbrev pub Finished : Graph → Rule → List ℕ → Type 0
@@ -28,7 +29,7 @@ is_due g d count v c = entry d.codes count v c == 0 && gains_at g d count v c
 
 -- a flag is 1 at what the next round counts, and 0 elsewhere
 abbrev pub flag : Bool → ℕ
-flag due = cond due 1 0
+flag b = cond b 1 0
 
 -- a count after round r, by the flag set before it
 abbrev pub settled : ℕ → ℕ → ℕ → ℕ

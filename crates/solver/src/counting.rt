@@ -1,7 +1,7 @@
 // The counts, by rounds.
 ghost use Rattle.std.specs.Prelude.{◌≡◌, ◌+◌, ◌<◌, ◌≤◌, true, false, length};
 ghost use Rattle.game.specs.Rounds.{positions, Quiet};
-ghost use Rattle.solver.specs.Rounds.{flag, settled, is_due, AfterRounds, Finished};
+ghost use Rattle.solver.specs.Rounds.{flag, settled, is_due, Counts, Finished};
 
 use crate::position::Position;
 use crate::rows::{fill, index};
@@ -37,8 +37,8 @@ fn count_round<M: Map, D: Duty>(
     requires few { done < 31872 }
     requires plans { length plan.old ≡ positions (M.graph map.now) (D.rule duty.now) }
     requires counts { length count.old ≡ positions (M.graph map.now) (D.rule duty.now) }
-    requires stand { AfterRounds (M.graph map.now) (D.rule duty.now) done count.old }
-    ensures given { AfterRounds (M.graph map.now) (D.rule duty.now) (done + 1) count.new }
+    requires stand { Counts (M.graph map.now) (D.rule duty.now) done count.old }
+    ensures given { Counts (M.graph map.now) (D.rule duty.now) (done + 1) count.new }
     ensures quiet { result ≡ false → Quiet (M.graph map.now) (D.rule duty.now) done }
     ensures loud { result ≡ true → Quiet (M.graph map.now) (D.rule duty.now) done → ⊥ }
 {
