@@ -15,7 +15,6 @@ use Rattle.job.specs.Faults.{report}
 use Rattle.job.specs.Reading.{State, due_duty, due_map, due_close, Ruling, next, unfit, ranged, worded, duty_word, bounded, ruled, judged, job, fault, at_end, after, reading, outcome}
 use Rattle.job.specs.Spelling.{SaysDuty, SaysMap}
 use Rattle.job.specs.Laws.{BeginsFit, Why, early_end, torn_line, long_line, unfit_line, Blames, ReadLaw}
-use Rattle.job.proofs.Words.{clash}
 use Rattle.job.proofs.Cuts.{chain, lines_back, chain_back, lines_chain, lines_all, lines_long}
 use Rattle.job.proofs.Rulings.{no_job}
 use Rattle.job.proofs.Jobs.{map_complete, map_clean, duty_clean, duty_go, reads}
@@ -50,7 +49,7 @@ fault_same e f h = cc
 end_fault : (s : State) (n : ℕ) (e : JobFault) → at_end s n ≡ fault e → e ≡ EndsEarly n
 end_fault due_duty n e h = fault_same (EndsEarly n) e h
 end_fault (due_map d) n e h = fault_same (EndsEarly n) e h
-end_fault (due_close d m) n e h = let z : ◌≡◌ {A = ℕ} 0 1 = cc in clash z
+end_fault (due_close d m) n e h = cc
 
 found_here : (n : ℕ) (s : State) (all : Lines) (e : JobFault) → Stuck n s e all → Found n s all e
 found_here n s all e h =

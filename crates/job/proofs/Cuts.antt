@@ -2,18 +2,13 @@
 use Rattle.std.proofs.Common.{◌≡◌, ℕ, suc, ◌+◌, ◌<◌, ◌≤◌, true, false, cond, not, eqb, ltb, List, [], ◌∷◌, ◌++◌, length, sym, refl, ap, ◌∙◌, subst, ⊎_elim, append_assoc, append-nil, arith}
 use Rattle.std.proofs.lemmas.Bool.{cases_lt, cond-true, cond-false, cond_both, lt-ltb, le-ltb, ltb-true, ltb-false, and_parts, and_from, not-true, not_from_false, eqb-true}
 use Rattle.std.proofs.lemmas.List.{length_push}
+use Rattle.job.proofs.Texts.{lacks_append}
 use Rattle.job.specs.Text.{line_end, line_limit, Lines, done, torn, long, cut, left, lines_from, lines, lacks, text_of, Clean, Cleans}
 
 -- lines before other lines
 abbrev pub chain : List (List ℕ) → Lines → Lines
 chain [] rest = rest
 chain (l ∷ ls) rest = cut l (chain ls rest)
-
-pub lacks_append : (b : ℕ) (f l : List ℕ) → lacks b f ≡ true → lacks b l ≡ true → lacks b (f ++ l) ≡ true
-lacks_append b [] l e h = h
-lacks_append b (x ∷ xs) l e h =
-    let p = and_parts (not (eqb x b)) (lacks b xs) e in
-    and_from (not (eqb x b)) (lacks b (xs ++ l)) p.0 (lacks_append b xs l p.1 h)
 
 lacks_push : (l : List ℕ) (x : ℕ) → lacks line_end l ≡ true → eqb x line_end ≡ false → lacks line_end (l ++ (x ∷ [])) ≡ true
 lacks_push l x c e = lacks_append line_end l (x ∷ []) c (and_from (not (eqb x line_end)) true (not_from_false (eqb x line_end) e) refl)

@@ -1,4 +1,3 @@
-pub mod Words
 pub mod Steps
 pub mod Cuts
 pub mod Places

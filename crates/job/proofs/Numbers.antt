@@ -1,14 +1,10 @@
 -- A field is read as the number that it says.
-use Rattle.std.proofs.Common.{◌≡◌, ℕ, ◌+◌, ◌-◌, ◌*◌, ◌<◌, ◌≤◌, Bool, true, false, cond, not, ◌&&◌, eqb, leb, List, [], ◌∷◌, length, Some, None, sym, refl, ap, ◌∙◌, arith}
+use Rattle.std.proofs.Common.{◌≡◌, ℕ, ◌+◌, ◌-◌, ◌*◌, ◌<◌, ◌≤◌, true, not, ◌&&◌, eqb, leb, List, [], ◌∷◌, length, Some, None, sym, refl, ap, ◌∙◌, arith}
+use Rattle.std.proofs.lemmas.Option.{cond_some}
 use Rattle.std.proofs.lemmas.Bool.{cond-true, le-leb, leb-true, and_parts, and_from, ne_eqb, not_from_false}
 use Rattle.job.specs.Text.{line_end, comma, lacks}
 use Rattle.job.specs.Number.{Numeral, digit, number}
-use Rattle.job.proofs.Words.{clash}
 use Rattle.job.proofs.Texts.{Neat}
-
-when_some : (b : Bool) (x y : ℕ) → cond b (Some x) None ≡ Some y → (b ≡ true) × (y ≡ x)
-when_some true x y e = (refl, cc)
-when_some false x y e = let z : ◌≡◌ {A = ℕ} 0 1 = cc in clash z
 
 digit_is : (low b : ℕ) → digit low b ≡ true → (low ≤ b) × (b ≤ 57)
 digit_is low b e = let p = and_parts (leb low b) (leb b 57) e in (leb-true low b p.0, leb-true b 57 p.1)
@@ -17,26 +13,26 @@ digit_from : (low b : ℕ) → low ≤ b → b ≤ 57 → digit low b ≡ true
 digit_from low b h k = and_from (leb low b) (leb b 57) (le-leb low b h) (le-leb b 57 k)
 
 pub number_reads : (f : List ℕ) (n : ℕ) → number f ≡ Some n → Numeral n f
-number_reads [] n e = let z : ◌≡◌ {A = ℕ} 0 1 = cc in clash z
+number_reads [] n e = cc
 number_reads (a ∷ []) n e =
-    let r = when_some (digit 48 a) (a - 48) n e in
+    let r = cond_some (digit 48 a) (a - 48) n e in
     let i = digit_is 48 a r.0 in
-    (i.0, i.1, r.1)
+    (i.0, i.1, sym r.1)
 number_reads (a ∷ b ∷ []) n e =
-    let r = when_some (digit 49 a && digit 48 b) (10 * (a - 48) + (b - 48)) n e in
+    let r = cond_some (digit 49 a && digit 48 b) (10 * (a - 48) + (b - 48)) n e in
     let p = and_parts (digit 49 a) (digit 48 b) r.0 in
     let i = digit_is 49 a p.0 in
     let j = digit_is 48 b p.1 in
-    (i.0, i.1, j.0, j.1, r.1)
+    (i.0, i.1, j.0, j.1, sym r.1)
 number_reads (a ∷ b ∷ c ∷ []) n e =
-    let r = when_some (digit 49 a && (digit 48 b && digit 48 c)) (100 * (a - 48) + 10 * (b - 48) + (c - 48)) n e in
+    let r = cond_some (digit 49 a && (digit 48 b && digit 48 c)) (100 * (a - 48) + 10 * (b - 48) + (c - 48)) n e in
     let p = and_parts (digit 49 a) (digit 48 b && digit 48 c) r.0 in
     let q = and_parts (digit 48 b) (digit 48 c) p.1 in
     let i = digit_is 49 a p.0 in
     let j = digit_is 48 b q.0 in
     let k = digit_is 48 c q.1 in
-    (i.0, i.1, j.0, j.1, k.0, k.1, r.1)
-number_reads (a ∷ b ∷ c ∷ d ∷ f) n e = let z : ◌≡◌ {A = ℕ} 0 1 = cc in clash z
+    (i.0, i.1, j.0, j.1, k.0, k.1, sym r.1)
+number_reads (a ∷ b ∷ c ∷ d ∷ f) n e = cc
 
 pub numeral_number : (f : List ℕ) (n : ℕ) → Numeral n f → number f ≡ Some n
 numeral_number [] n h = absurd h

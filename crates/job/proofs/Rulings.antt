@@ -9,13 +9,12 @@ use Rattle.job.specs.declared.records.DutyWord.{DutyWord}
 use Rattle.job.specs.declared.records.DutyWord.TheVariants.{Window}
 use Rattle.job.specs.declared.faults.JobFault.{JobFault}
 use Rattle.job.specs.declared.faults.JobFault.TheVariants.{OutOfRange, NotDue}
-use Rattle.job.specs.Text.{fields, joined}
+use Rattle.job.specs.Text.{comma, fields, joined}
 use Rattle.job.specs.Number.{Numeral, number}
 use Rattle.job.specs.Job.{Job, word_text}
 use Rattle.job.specs.Kind.{Kind, duty_line, site_line, queue_line, place_line, way_line, close_line, keyword, kind_by, kind_if, kind_of_fields, kind}
 use Rattle.job.specs.Reading.{State, Ruling, next, unfit, ranged, within, worded, duty_word, ruled, judged, Outcome, job, fault, after}
-use Rattle.job.proofs.Words.{clash}
-use Rattle.job.proofs.Texts.{joined_fields}
+use Rattle.std.proofs.lemmas.List.Splits.{join_with_byte-slice_split}
 use Rattle.job.proofs.Numbers.{number_reads, numeral_number}
 
 abbrev keyword_text : Keyword → List ℕ
@@ -89,7 +88,7 @@ parts_of (w ∷ fs) = parts_if w (keyword w) fs (keyword_is w)
 
 -- a line of a kind is that kind's fields joined
 pub kind_bytes : (l : List ℕ) (k : Kind) → kind l ≡ Some k → l ≡ joined (parts k)
-kind_bytes l k e = sym (joined_fields l) ∙ ap joined (subst (PartsOf (fields l)) e (parts_of (fields l)))
+kind_bytes l k e = sym (join_with_byte-slice_split comma l) ∙ ap joined (subst (PartsOf (fields l)) e (parts_of (fields l)))
 
 abbrev WordIs : List ℕ → Option DutyWord → Type 0
 WordIs f None = Unit {0}
@@ -104,10 +103,10 @@ pub duty_word_text : (w : DutyWord) → duty_word (word_text w) ≡ Some w
 duty_word_text Window = refl
 
 pub never : {P : Type 0} (e : JobFault) (s : State) → unfit e ≡ next s → P
-never e s h = let z : ◌≡◌ {A = ℕ} 0 1 = cc in clash z
+never e s h = cc
 
 pub no_job : {P : Type 0} (e : JobFault) (j : Job) → fault e ≡ job j → P
-no_job e j h = let z : ◌≡◌ {A = ℕ} 0 1 = cc in clash z
+no_job e j h = cc
 
 pub next_same : (s t : State) → next s ≡ next t → t ≡ s
 next_same s t e = cc

@@ -1,24 +1,10 @@
 -- Where lines and fields end, and what the cutter's answers say of the text that is left.
-use Rattle.std.specs.Prelude.{◌≡◌, ℕ, suc, ◌<◌, ◌≤◌, List, length, Option, ◌≢◌, slice_index}
+use Rattle.std.specs.Prelude.{◌≡◌, ℕ, List}
 use Rattle.job.specs.declared.faults.CutFault.{CutFault}
 use Rattle.job.specs.declared.faults.CutFault.TheVariants.{NoEnd, TooLong}
 use Rattle.job.specs.declared.faults.RecordFault.{RecordFault}
 use Rattle.job.specs.declared.faults.RecordFault.TheVariants.{Cut, NotNumber, UnknownWord}
-use Rattle.job.specs.Text.{line_end, line_limit, lines, done, torn, long, cut}
-use Rattle.job.specs.Kind.{Kind, kind}
-
--- b does not stand in the first e places
-abbrev pub Absent : ℕ → List ℕ → ℕ → Type 0
-Absent b bytes e = (k : ℕ) → k < e → slice_index bytes k ≢ b
-
--- b stands at e, and not before
-abbrev pub FirstAt : ℕ → List ℕ → ℕ → Type 0
-FirstAt b bytes e = (e < length bytes) × (slice_index bytes e ≡ b) × Absent b bytes e
-
--- where line n is due no LF comes in time
-abbrev pub Endless : List ℕ → ℕ → CutFault → Type 0
-Endless text n (NoEnd line) = Absent line_end text (length text) × (length text ≤ line_limit) × (line ≡ n)
-Endless text n (TooLong line) = Absent line_end text (suc line_limit) × (line_limit < length text) × (line ≡ n)
+use Rattle.job.specs.Text.{lines, done, torn, long, cut}
 
 -- no line is left of a text
 abbrev pub Ended : List ℕ → Type 0
@@ -27,10 +13,6 @@ Ended text = lines text ≡ done
 -- the line l is cut off a text, and the rest is left
 abbrev pub CutOff : List ℕ → List ℕ → List ℕ → Type 0
 CutOff text l rest = lines text ≡ cut l (lines rest)
-
--- a line of this kind, or of none, is cut off a text, and the rest is left
-abbrev pub Told : List ℕ → Option Kind → List ℕ → Type 0
-Told text k rest = (l : List ℕ) × CutOff text l rest × (k ≡ kind l)
 
 -- no line can be cut off a text where line n is due
 abbrev pub Uncut : List ℕ → ℕ → CutFault → Type 0

@@ -1,5 +1,5 @@
 -- What the inner values of the reader stand for, and what its parts do with them.
-use Rattle.std.specs.Prelude.{◌≡◌, ℕ, suc, ◌+◌, ◌<◌, Bool, true, false, List, [], length, IfErr, Some, None, Ok, Err, Option, Result}
+use Rattle.std.specs.Prelude.{◌≡◌, ℕ, zero, suc, ◌+◌, ◌<◌, List, [], ◌∷◌, length, Some, None, Ok, Err, Option, Result}
 use Rattle.std.specs.Borrow.{Bor}
 use Rattle.job.specs.declared.cutter.Cutter.{Cutter}
 use Rattle.job.specs.declared.faults.JobFault.{JobFault}
@@ -8,26 +8,21 @@ use Rattle.job.specs.declared.records.Line.TheVariants.{Duty, Site, Queue, Place
 use Rattle.job.specs.declared.reader.Phase.{Phase}
 use Rattle.job.specs.declared.reader.Phase.TheVariants.{Duty as DutyDue, Map as MapDue, Close as CloseDue}
 use Rattle.job.specs.declared.reader.Reader.{Reader}
-use Rattle.job.specs.Text.{lines, fields}
-use Rattle.job.specs.Cutting.{Ended, Told}
+use Rattle.job.specs.Text.{lines}
+use Rattle.job.specs.Cutting.{Ended, CutOff}
 use Rattle.job.specs.Kind.{Kind, duty_line, site_line, queue_line, place_line, way_line, close_line, made}
-use Rattle.job.specs.Reading.{State, due_duty, due_map, due_close, Ruling, next, unfit, Outcome, reading}
+use Rattle.job.specs.Reading.{State, due_duty, due_map, due_close, Ruling, unfit, Outcome, reading}
 use Rattle.job.specs.Shown.{shown_duty, shown_map}
 
 -- what optional parts of the text hold
 abbrev pub seen : Option (Bor (List ℕ)) → Option (List ℕ)
 seen o = made (λ r. r.now) o
 
-abbrev pub seen_two : Option (Bor (List ℕ) × Bor (List ℕ)) → Option (List ℕ × List ℕ)
-seen_two o = made (λ r. (r.0.now, r.1.now)) o
-
-abbrev pub seen_three : Option (Bor (List ℕ) × Bor (List ℕ) × Bor (List ℕ)) → Option (List ℕ × List ℕ × List ℕ)
-seen_three o = made (λ r. (r.0.now, r.1.now, r.2.now)) o
-
--- the fields of what is left of a line, or none where nothing is left
-abbrev pub fields_left : Option (Bor (List ℕ)) → List (List ℕ)
-fields_left None = []
-fields_left (Some r) = fields r.now
+-- the first n of some values, and none for each that is lacking
+abbrev pub padded : {X : Type 0} → ℕ → List X → List (Option X)
+padded zero xs = []
+padded (suc n) [] = None ∷ padded n []
+padded (suc n) (x ∷ xs) = Some x ∷ padded n xs
 
 abbrev pub shown_line : Line → Kind
 shown_line (Duty word bound) = duty_line word.now (seen bound)
@@ -51,19 +46,8 @@ goes (Err e) go = unfit e
 abbrev pub ahead : Reader → Outcome
 ahead r = reading (state_of r.phase) (suc r.cutter.line) (lines r.cutter.rest.now)
 
--- what a reader does with a line: it goes on by the ruling, or refuses and stays as it is
-pub record Taken (ruling : Ruling) (old : Reader) (r : Result (Unit {0}) JobFault) (new : Reader) : Type 0 where
-  pub ruled : ruling ≡ goes r (λ _. next (state_of new.phase))
-  pub cutter : new.cutter ≡ old.cutter
-  pub refused : IfErr r (λ _. new ≡ old)
-
--- what a step does: a line leads on and leaves less of the text, or the text is at its end
-abbrev pub Stepped : Reader → Bool → Reader → Type 0
-Stepped old true new = (ahead old ≡ ahead new) × (length new.cutter.rest.now < length old.cutter.rest.now)
-Stepped old false new = Ended old.cutter.rest.now × (new ≡ old)
-
--- what a cutter has handed out: nothing at the end of its text, or a line by its kind, if it has one
-abbrev pub Handed : Cutter → Option (Option Line) → Cutter → Type 0
+-- what a cutter has handed out: nothing at the end of its text, or a line that is cut off
+abbrev pub Handed : Cutter → Option (Bor (List ℕ)) → Cutter → Type 0
 Handed old None new = Ended old.rest.now × (new ≡ old)
-Handed old (Some k) new =
-    Told old.rest.now (made shown_line k) new.rest.now × (new.line ≡ old.line + 1) × (length new.rest.now < length old.rest.now)
+Handed old (Some l) new =
+    CutOff old.rest.now l.now new.rest.now × (new.line ≡ old.line + 1) × (length new.rest.now < length old.rest.now)

@@ -1,5 +1,6 @@
 -- A text cut into lines, and a line into fields.
-use Rattle.std.specs.Prelude.{◌≡◌, ℕ, ◌≤◌, Bool, true, cond, not, ◌&&◌, List, [], ◌∷◌, ◌++◌, length, ◌==◌, nat_lt}
+use Rattle.std.specs.Prelude.{◌≡◌, ℕ, ◌≤◌, Bool, true, cond, not, List, [], ◌∷◌, ◌++◌, length, ◌==◌, nat_lt}
+use Rattle.std.specs.List.{list_all, slice_split, join_with_byte}
 
 -- the byte that ends a line (LF)
 abbrev pub line_end : ℕ
@@ -46,8 +47,7 @@ text_of (l ∷ ls) = l ++ (line_end ∷ text_of ls)
 
 -- whether no byte is b
 abbrev pub lacks : ℕ → List ℕ → Bool
-lacks b [] = true
-lacks b (x ∷ xs) = not (x == b) && lacks b xs
+lacks b xs = list_all (λ x. not (x == b)) xs
 
 -- what a line may be
 abbrev pub Clean : List ℕ → Type 0
@@ -57,18 +57,10 @@ abbrev pub Cleans : List (List ℕ) → Type 0
 Cleans [] = Unit {0}
 Cleans (l ∷ ls) = Clean l × Cleans ls
 
--- a byte put in front of the first of some fields
-abbrev pub before : ℕ → List (List ℕ) → List (List ℕ)
-before b [] = (b ∷ []) ∷ []
-before b (f ∷ fs) = (b ∷ f) ∷ fs
-
 -- the fields of a line: it is cut at each comma
 abbrev pub fields : List ℕ → List (List ℕ)
-fields [] = [] ∷ []
-fields (b ∷ bs) = cond (b == comma) ([] ∷ fields bs) (before b (fields bs))
+fields l = slice_split (λ b. b == comma) l
 
 -- fields joined by commas
 abbrev pub joined : List (List ℕ) → List ℕ
-joined [] = []
-joined (f ∷ []) = f
-joined (f ∷ g ∷ fs) = f ++ (comma ∷ joined (g ∷ fs))
+joined fs = join_with_byte comma fs

@@ -1,7 +1,7 @@
 // Cuts a text into lines. What ends a line, and how long one may be, is known here alone.
-ghost use Rattle.std.specs.Prelude.{◌≡◌, ◌+◌, ◌^◌, ◌<◌, ◌≤◌, length, MatchOption, MatchResult};
+ghost use Rattle.std.specs.Prelude.{◌≡◌, ◌+◌, ◌^◌, ◌<◌, ◌≤◌, ◌==◌, length, take, position, MatchOption, IfSome, MatchResult};
 ghost use Rattle.job.specs.Text.{line_end, line_limit};
-ghost use Rattle.job.specs.Cutting.{FirstAt, Endless, Ended, CutOff, Uncut};
+ghost use Rattle.job.specs.Cutting.{Ended, CutOff, Uncut};
 
 use crate::faults::CutFault;
 
@@ -64,21 +64,19 @@ fn cut_line<'a>(text: &'a [u8], line: usize) -> Result<(&'a [u8], &'a [u8]), Cut
         (λ p. CutOff text.now p.0.now p.1.now × (length p.1.now < length text.now))
         (λ e. Uncut text.now line e) }
 {
-    let end = line_end(text, line)?;
-    Ok((&text[0..end], &text[end + 1..text.len()]))
+    match line_end(text) {
+        Some(end) => Ok((&text[..end], &text[end + 1..])),
+        None if text.len() > LINE_LIMIT => Err(CutFault::TooLong { line }),
+        None => Err(CutFault::NoEnd { line }),
+    }
 }
 
-// The place of the byte that ends the first line.
-fn line_end(text: &[u8], line: usize) -> Result<usize, CutFault>
-    ensures { MatchResult result (λ e. FirstAt line_end text.now e × (e ≤ line_limit)) (λ e. Endless text.now line e) }
+// The place of the byte that ends the first line, if it comes in time.
+fn line_end(text: &[u8]) -> Option<usize>
+    ensures first { result ≡ position (λ b. b == line_end) (take (line_limit + 1) text.now) }
+    ensures within { IfSome result (λ end. end < length text.now) }
 {
-    for (end, byte) in text.iter().enumerate() {
-        if *byte == LINE_END {
-            return Ok(end);
-        }
-        if end >= LINE_LIMIT {
-            return Err(CutFault::TooLong { line });
-        }
-    }
-    Err(CutFault::NoEnd { line })
+    text.iter()
+        .take(LINE_LIMIT + 1)
+        .position(|byte| *byte == LINE_END)
 }

@@ -4,13 +4,13 @@ ghost use Rattle.job.specs.Number.{number};
 ghost use Rattle.job.specs.Job.{capacity_top};
 ghost use Rattle.job.specs.Kind.{duty_line, queue_line, made};
 ghost use Rattle.job.specs.Reading.{Ruling, next, unfit, due_duty, due_map, within, worded, duty_word, bounded, ruled, judged, fault, at_end, outcome};
-ghost use Rattle.job.specs.Inside.{seen, shown_line, state_of, goes, ahead, Taken, Stepped};
+ghost use Rattle.job.specs.Inside.{seen, shown_line, state_of, goes, ahead};
 ghost use Rattle.job.specs.Shown.{shown_duty, shown};
 
 use crate::Job;
 use crate::cutter::Cutter;
 use crate::faults::JobFault;
-use crate::records::{DutyWord, Line, duty_word, next_line, numeral};
+use crate::records::{DutyWord, Field, Line, line_kind, next_line};
 use duties::Window;
 use maps::Queue;
 
@@ -46,61 +46,28 @@ impl<'a> Reader<'a> {
     pub(crate) fn read(mut self) -> Result<Job, JobFault>
         ensures { shown result ≡ ahead self.entry }
     {
-        'lines: while self.step()? {}
+        'lines: while let Some(line) = next_line(&mut self.cutter)? {
+            self.phase = self.phase_after(line_kind(line))?;
+        }
         self.finish()
     }
 
-    // Takes the next line; false at the end of the text.
-    fn step(&mut self) -> Result<bool, JobFault>
-        ensures { MatchResult result
-            (λ more. Stepped self.old more self.new)
-            (λ e. (ahead self.old ≡ fault e) × (self.new.phase ≡ self.old.phase)) }
+    // What is due after a line that has just been cut, if its kind is due.
+    fn phase_after(&self, kind: Option<Line<'a>>) -> Result<Phase, JobFault>
+        ensures { judged self.now.cutter.line (state_of self.now.phase) (made shown_line kind.entry)
+            ≡ goes result (λ phase. next (state_of phase)) }
     {
-        match next_line(&mut self.cutter)? {
-            Some(line) => {
-                self.take(line)?;
-                Ok(true)
-            }
-            None => Ok(false),
-        }
-    }
-
-    // Takes a line if its kind is due.
-    fn take(&mut self, line: Option<Line<'a>>) -> Result<(), JobFault>
-        ensures { Taken
-            (judged self.old.cutter.line (state_of self.old.phase) (made shown_line line.entry))
-            self.old result self.new }
-    {
-        match (&self.phase, line) {
-            (Phase::Duty, Some(Line::Duty { word, bound })) => self.take_duty(word, bound),
-            (Phase::Map { duty }, Some(Line::Queue { capacity })) => {
-                let duty = *duty;
-                self.take_queue(duty, capacity)
-            }
-            _ => Err(JobFault::NotDue {
-                line: self.cutter.line(),
+        let line = self.cutter.line();
+        match (self.phase, kind) {
+            (Phase::Duty, Some(Line::Duty { word, bound })) => Ok(Phase::Map {
+                duty: duty_record(line, word, bound)?,
             }),
+            (Phase::Map { duty }, Some(Line::Queue { capacity })) => Ok(Phase::Close {
+                duty,
+                map: queue_record(line, capacity)?,
+            }),
+            _ => Err(JobFault::NotDue { line }),
         }
-    }
-
-    fn take_duty(&mut self, word: &[u8], bound: Option<&[u8]>) -> Result<(), JobFault>
-        ensures { Taken
-            (ruled self.old.cutter.line due_duty (duty_line word.now (seen bound.entry)))
-            self.old result self.new }
-    {
-        let duty = duty_record(word, bound, self.cutter.line())?;
-        self.phase = Phase::Map { duty };
-        Ok(())
-    }
-
-    fn take_queue(&mut self, duty: Window, capacity: &[u8]) -> Result<(), JobFault>
-        ensures { Taken
-            (ruled self.old.cutter.line (due_map (shown_duty duty)) (queue_line capacity.now))
-            self.old result self.new }
-    {
-        let map = queue_record(capacity, self.cutter.line())?;
-        self.phase = Phase::Close { duty, map };
-        Ok(())
     }
 
     // The job, where the text ends.
@@ -117,41 +84,47 @@ impl<'a> Reader<'a> {
 }
 
 // The number in a field as a byte. All limits are below 256, so a number that is no byte is outside them.
-fn small_number(text: &[u8], line: usize, field: u8) -> Result<u8, JobFault>
+fn small_number(field: Field) -> Result<u8, JobFault>
     ensures { MatchResult result
-        (λ b. number text.now ≡ Some b)
-        (λ e. (low top : ℕ) (go : ℕ → Ruling) → top ≤ 256 → within line field low top text.now go ≡ unfit e) }
+        (λ b. number field.entry.text.now ≡ Some b)
+        (λ e. (low top : ℕ) (go : ℕ → Ruling) → top ≤ 256 → within field.entry.line field.entry.place low top field.entry.text.now go ≡ unfit e) }
 {
-    let n = numeral(text, line, field)?;
-    match u8::try_from(n) {
-        Ok(byte) => Ok(byte),
-        Err(_) => Err(JobFault::OutOfRange { line, field }),
-    }
+    u8::try_from(field.numeral()?).map_err(|_| JobFault::OutOfRange {
+        line: field.line,
+        field: field.place,
+    })
 }
 
 // A duty's fields. The limits of its bound are the duty's own.
-fn duty_record(word: &[u8], bound: Option<&[u8]>, line: usize) -> Result<Window, JobFault>
+fn duty_record(line: usize, word: &[u8], bound: Option<&[u8]>) -> Result<Window, JobFault>
     ensures { worded line 2 (duty_word word.now) (bounded line (seen bound.entry))
         ≡ goes result (λ w. next (due_map (shown_duty w))) }
 {
-    let DutyWord::Window = duty_word(word, line, 2)?;
+    let DutyWord::Window = Field {
+        text: word,
+        line,
+        place: 2,
+    }
+    .duty_word()?;
     let number = match bound {
-        Some(text) => small_number(text, line, 3)?,
+        Some(text) => small_number(Field {
+            text,
+            line,
+            place: 3,
+        })?,
         None => DEFAULT_BOUND,
     };
-    match Window::new(number) {
-        Ok(duty) => Ok(duty),
-        Err(_) => Err(JobFault::OutOfRange { line, field: 3 }),
-    }
+    Window::new(number).map_err(|_| JobFault::OutOfRange { line, field: 3 })
 }
 
 // A queue's field. The limits of its capacity are the queue's own.
-fn queue_record(capacity: &[u8], line: usize) -> Result<Queue, JobFault>
+fn queue_record(line: usize, capacity: &[u8]) -> Result<Queue, JobFault>
     ensures { (go : ℕ → Ruling) → within line 2 1 capacity_top capacity.now go ≡ goes result (λ q. go q.capacity) }
 {
-    let number = small_number(capacity, line, 2)?;
-    match Queue::new(number) {
-        Ok(map) => Ok(map),
-        Err(_) => Err(JobFault::OutOfRange { line, field: 2 }),
-    }
+    let number = small_number(Field {
+        text: capacity,
+        line,
+        place: 2,
+    })?;
+    Queue::new(number).map_err(|_| JobFault::OutOfRange { line, field: 2 })
 }

@@ -1,15 +1,13 @@
 -- A line is what stands before its end.
-use Rattle.std.proofs.Common.{arith, length-drop, length-take}
-use Rattle.std.proofs.lemmas.Result.{err_from_is_err_and}
-use Rattle.job.proofs.Places.{cut_at, uncut}
+use Rattle.std.proofs.Common.{arith, refl, sym, length-drop, length-take}
+use Rattle.job.proofs.Places.{cut_at, too_long, not_ended}
 use Rattle.job.proofs.cutter.cut_line.Goals as goal
 
-pub returns-in_err-end : goal.returns-in_err-end
-returns-in_err-end c =
-    let p = err_from_is_err_and c.from_residual.result c.from_residual.ensures.1 in
-    rw (p.1, p.2) (uncut c.args.text.now c.args.line c.in_err-end.field-0.0 c.requires c.in_err-end.ensures)
+pub returns-in-Some : goal.returns-in-Some
+returns-in-Some c = (cut_at c.args.text.now c.in-Some.end (sym c.in-Some.ensures.first), simp (length-take, length-drop) (omega (arith, c.in-Some.ensures.within)))
 
-pub returns : goal.returns
-returns c =
-    let h = c.in_ok-end.ensures in
-    (cut_at c.args.text.now c.in_ok-end.end h.0 h.1, simp (length-take, length-drop) (omega (arith, h.0.0)))
+pub returns-in-None : goal.returns-in-None
+returns-in-None c = (too_long c.args.text.now (sym c.in-None.ensures.first) c.if-text-gt-LINE_LIMIT.true, refl)
+
+pub returns-in-None-2 : goal.returns-in-None-2
+returns-in-None-2 c = (not_ended c.args.text.now (sym c.in-None.ensures.first) c.if-text-gt-LINE_LIMIT.false c.requires, refl)

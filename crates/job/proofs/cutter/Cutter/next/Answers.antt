@@ -1,7 +1,8 @@
 -- An empty text has no line.
-use Rattle.std.proofs.Common.{refl}
-use Rattle.job.proofs.Words.{ended}
+use Rattle.std.proofs.Common.{refl, sym}
+use Rattle.std.proofs.lemmas.Bool.{eqb-true}
+use Rattle.job.proofs.Steps.{empty}
 use Rattle.job.proofs.cutter.Cutter.next.Goals as goal
 
 pub returns-then-is_empty : goal.returns-then-is_empty
-returns-then-is_empty c = (ended c.args.self.now.rest.now c.if-is_empty.ensures, refl)
+returns-then-is_empty c = (empty c.args.self.now.rest.now (eqb-true _ _ (sym c.if-is_empty.ensures)), refl)
