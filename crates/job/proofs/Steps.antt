@@ -1,8 +1,7 @@
 -- One line more of a text.
-use Rattle.std.proofs.Common.{◌≡◌, ℕ, List, length, Some, Option, suc, sym, ap, ◌∙◌, subst, refl, [], ◌∷◌, add-one, Bor, arith}
+use Rattle.std.proofs.Common.{◌≡◌, ℕ, List, Some, Option, suc, sym, ap, ◌∙◌, subst, add-one, Bor}
 use Rattle.job.specs.declared.cutter.Cutter.{Cutter}
 use Rattle.job.specs.Text.{lines}
-use Rattle.job.specs.Cutting.{Ended}
 use Rattle.job.specs.Kind.{Kind, kind}
 use Rattle.job.specs.Reading.{State, Outcome, Ruling, after, judged, reading}
 use Rattle.job.specs.Inside.{Handed}
@@ -20,7 +19,3 @@ handed old new o l is h s k r same e =
     ap (λ (n : ℕ). reading s n (lines old.rest.now)) (sym (add-one old.line) ∙ sym g.1)
     ∙ ap (reading s new.line) g.0
     ∙ ap (λ (x : Ruling). after x (λ t. onward t new)) (ap (judged new.line s) (sym same) ∙ e)
-
-pub empty : (text : List ℕ) → length text ≡ 0 → Ended text
-empty [] h = refl
-empty (b ∷ bs) h = absurd (omega arith)

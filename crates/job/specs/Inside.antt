@@ -1,6 +1,7 @@
 -- What the inner values of the reader stand for, and what its parts do with them.
 use Rattle.std.specs.Prelude.{◌≡◌, ℕ, zero, suc, ◌+◌, ◌<◌, List, [], ◌∷◌, length, Some, None, Ok, Err, Option, Result}
 use Rattle.std.specs.Borrow.{Bor}
+use Rattle.std.specs.Option.{option_map}
 use Rattle.job.specs.declared.cutter.Cutter.{Cutter}
 use Rattle.job.specs.declared.faults.JobFault.{JobFault}
 use Rattle.job.specs.declared.records.Line.{Line}
@@ -10,13 +11,13 @@ use Rattle.job.specs.declared.reader.Phase.TheVariants.{Duty as DutyDue, Map as 
 use Rattle.job.specs.declared.reader.Reader.{Reader}
 use Rattle.job.specs.Text.{lines}
 use Rattle.job.specs.Cutting.{Ended, CutOff}
-use Rattle.job.specs.Kind.{Kind, duty_line, site_line, queue_line, place_line, way_line, close_line, made}
+use Rattle.job.specs.Kind.{Kind, duty_line, site_line, queue_line, place_line, way_line, close_line}
 use Rattle.job.specs.Reading.{State, due_duty, due_map, due_close, Ruling, unfit, Outcome, reading}
 use Rattle.job.specs.Shown.{shown_duty, shown_map}
 
 -- what optional parts of the text hold
 abbrev pub seen : Option (Bor (List ℕ)) → Option (List ℕ)
-seen o = made (λ r. r.now) o
+seen o = option_map (λ r. r.now) o
 
 -- the first n of some values, and none for each that is lacking
 abbrev pub padded : {X : Type 0} → ℕ → List X → List (Option X)

@@ -1,5 +1,6 @@
 -- The six kinds of lines, and how a line is told by its keyword and its number of fields.
 use Rattle.std.specs.Prelude.{ℕ, cond, List, [], ◌∷◌, Some, None, codes, Option}
+use Rattle.std.specs.Option.{option_map}
 use Rattle.std.specs.Str.{bytes_eq}
 use Rattle.job.specs.declared.records.Keyword.{Keyword}
 use Rattle.job.specs.declared.records.Keyword.TheVariants.{Duty, Site, Queue, Place, Way, Close}
@@ -23,11 +24,6 @@ keyword w =
     (cond (bytes_eq w (codes "way")) (Some Way)
     (cond (bytes_eq w (codes "close")) (Some Close) None)))))
 
--- what is made of a value, if it is there
-abbrev pub made : {A B : Type 0} → (A → B) → Option A → Option B
-made make None = None
-made make (Some a) = Some (make a)
-
 -- the one, two or three fields that there are, if there are just so many
 abbrev pub one : List (List ℕ) → Option (List ℕ)
 one [] = None
@@ -36,11 +32,11 @@ one (f ∷ g ∷ fs) = None
 
 abbrev pub two : List (List ℕ) → Option (List ℕ × List ℕ)
 two [] = None
-two (f ∷ fs) = made (λ g. (f, g)) (one fs)
+two (f ∷ fs) = option_map (λ g. (f, g)) (one fs)
 
 abbrev pub three : List (List ℕ) → Option (List ℕ × List ℕ × List ℕ)
 three [] = None
-three (f ∷ fs) = made (λ p. (f, p.0, p.1)) (two fs)
+three (f ∷ fs) = option_map (λ p. (f, p.0, p.1)) (two fs)
 
 abbrev pub duty_kind : List (List ℕ) → Option Kind
 duty_kind [] = None
@@ -51,11 +47,11 @@ duty_kind (w ∷ b ∷ x ∷ fs) = None
 -- the kind of a line by its keyword and the fields after it
 abbrev pub kind_by : Keyword → List (List ℕ) → Option Kind
 kind_by Duty fs = duty_kind fs
-kind_by Site fs = made site_line (one fs)
-kind_by Queue fs = made queue_line (one fs)
-kind_by Place fs = made (λ p. place_line p.0 p.1 p.2) (three fs)
-kind_by Way fs = made (λ p. way_line p.0 p.1) (two fs)
-kind_by Close fs = made (λ p. close_line p.0 p.1) (two fs)
+kind_by Site fs = option_map site_line (one fs)
+kind_by Queue fs = option_map queue_line (one fs)
+kind_by Place fs = option_map (λ p. place_line p.0 p.1 p.2) (three fs)
+kind_by Way fs = option_map (λ p. way_line p.0 p.1) (two fs)
+kind_by Close fs = option_map (λ p. close_line p.0 p.1) (two fs)
 
 abbrev pub kind_if : Option Keyword → List (List ℕ) → Option Kind
 kind_if None fs = None

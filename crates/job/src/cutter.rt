@@ -38,6 +38,7 @@ impl<'a> Cutter<'a> {
     }
 
     // The next line without its end; none at the end of the text.
+    // No Iterator: its items would be results, and the reader asks for the line's number between them, so the loop gets longer.
     pub(crate) fn next(&mut self) -> Result<Option<&'a [u8]>, CutFault>
         ensures { MatchResult result
             (λ o. MatchOption o

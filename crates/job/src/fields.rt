@@ -1,25 +1,21 @@
 // Parts a line into fields, and reads a field as a number.
-ghost use Rattle.std.specs.Prelude.{◌≡◌, ◌-◌, ◌≤◌, map};
+ghost use Rattle.std.specs.Prelude.{◌≡◌, ◌-◌, ◌≤◌, ◌∷◌, map};
 ghost use Rattle.job.specs.Text.{fields};
 ghost use Rattle.job.specs.Number.{number};
-ghost use Rattle.job.specs.Kind.{made};
 ghost use Rattle.job.specs.Inside.{seen, padded};
 
 // The byte that parts the fields.
 const COMMA: u8 = b',';
 
-// A line's first five fields, as far as it has so many.
-pub(crate) fn first_fields<'a>(line: &'a [u8]) -> [Option<&'a [u8]>; 5]
-    ensures { map seen result ≡ padded 5 (fields line.now) }
+// A line's first field, and the four after it, as far as it has so many.
+pub(crate) fn first_fields<'a>(line: &'a [u8]) -> (Option<&'a [u8]>, [Option<&'a [u8]>; 4])
+    ensures { seen result.0 ∷ map seen result.1 ≡ padded 5 (fields line.now) }
 {
     let mut fields = line.split(|byte| *byte == COMMA);
-    [
+    (
         fields.next(),
-        fields.next(),
-        fields.next(),
-        fields.next(),
-        fields.next(),
-    ]
+        [fields.next(), fields.next(), fields.next(), fields.next()],
+    )
 }
 
 // A number of 1 to 3 digits without leading zero.

@@ -1,8 +1,9 @@
 // Reads a job: what may come next depends on what has come.
 ghost use Rattle.std.specs.Prelude.{◌≡◌, ℕ, suc, ◌≤◌, Some, MatchResult};
+ghost use Rattle.std.specs.Option.{option_map};
 ghost use Rattle.job.specs.Number.{number};
 ghost use Rattle.job.specs.Job.{capacity_top};
-ghost use Rattle.job.specs.Kind.{duty_line, queue_line, made};
+ghost use Rattle.job.specs.Kind.{duty_line, queue_line};
 ghost use Rattle.job.specs.Reading.{Ruling, next, unfit, due_duty, due_map, within, worded, duty_word, bounded, ruled, judged, fault, at_end, outcome};
 ghost use Rattle.job.specs.Inside.{seen, shown_line, state_of, goes, ahead};
 ghost use Rattle.job.specs.Shown.{shown_duty, shown};
@@ -10,7 +11,7 @@ ghost use Rattle.job.specs.Shown.{shown_duty, shown};
 use crate::Job;
 use crate::cutter::Cutter;
 use crate::faults::JobFault;
-use crate::records::{DutyWord, Field, Line, line_kind, next_line};
+use crate::records::{DutyWord, Field, Line, next_line};
 use duties::Window;
 use maps::Queue;
 
@@ -46,15 +47,15 @@ impl<'a> Reader<'a> {
     pub(crate) fn read(mut self) -> Result<Job, JobFault>
         ensures { shown result ≡ ahead self.entry }
     {
-        'lines: while let Some(line) = next_line(&mut self.cutter)? {
-            self.phase = self.phase_after(line_kind(line))?;
+        while let Some(line) = next_line(&mut self.cutter)? {
+            self.phase = self.phase_after(Line::read(line))?;
         }
         self.finish()
     }
 
     // What is due after a line that has just been cut, if its kind is due.
     fn phase_after(&self, kind: Option<Line<'a>>) -> Result<Phase, JobFault>
-        ensures { judged self.now.cutter.line (state_of self.now.phase) (made shown_line kind.entry)
+        ensures { judged self.now.cutter.line (state_of self.now.phase) (option_map shown_line kind.entry)
             ≡ goes result (λ phase. next (state_of phase)) }
     {
         let line = self.cutter.line();

@@ -1,9 +1,10 @@
 // The kinds of lines, with their fields as parts of the text, and the words and numbers in their fields.
 ghost use Rattle.std.specs.Prelude.{◌≡◌, ℕ, List, map, ◌+◌, Some, None, MatchResult};
+ghost use Rattle.std.specs.Option.{option_map};
 ghost use Rattle.job.specs.declared.faults.RecordFault.TheVariants.{NotNumber, UnknownWord};
 ghost use Rattle.job.specs.Text.{fields};
 ghost use Rattle.job.specs.Number.{number};
-ghost use Rattle.job.specs.Kind.{keyword, kind_by, kind, made};
+ghost use Rattle.job.specs.Kind.{keyword, kind_by, kind};
 ghost use Rattle.job.specs.Reading.{duty_word};
 ghost use Rattle.job.specs.Cutting.{UncutRecord};
 ghost use Rattle.job.specs.Inside.{seen, padded, shown_line, Handed};
@@ -84,33 +85,36 @@ pub(crate) enum Line<'a> {
     },
 }
 
-// A line by its kind; none where the keyword is none, or the number of fields is wrong.
-pub(crate) fn line_kind<'a>(line: &'a [u8]) -> Option<Line<'a>>
-    ensures { made shown_line result ≡ kind line.now }
-{
-    let [word, a, b, c, d] = first_fields(line);
-    line_by(Keyword::read(word?)?, [a, b, c, d])
-}
+impl<'a> Line<'a> {
+    // None where the keyword is none, or the number of fields is wrong.
+    pub(crate) fn read(line: &'a [u8]) -> Option<Line<'a>>
+        ensures { option_map shown_line result ≡ kind line.now }
+    {
+        let (word, after) = first_fields(line);
+        Line::after(Keyword::read(word?)?, after)
+    }
 
-fn line_by<'a>(keyword: Keyword, after: [Option<&'a [u8]>; 4]) -> Option<Line<'a>>
-    ensures { (fs : List (List ℕ)) → map seen after.entry ≡ padded 4 fs → made shown_line result ≡ kind_by keyword fs }
-{
-    match (keyword, after) {
-        (Keyword::Duty, [Some(word), bound, None, _]) => Some(Line::Duty { word, bound }),
-        (Keyword::Site, [Some(count), None, ..]) => Some(Line::Site { count }),
-        (Keyword::Queue, [Some(capacity), None, ..]) => Some(Line::Queue { capacity }),
-        (Keyword::Place, [Some(number), Some(side), Some(mark), None]) => Some(Line::Place {
-            number,
-            side,
-            mark,
-        }),
-        (Keyword::Way, [Some(from), Some(to), None, _]) => Some(Line::Way { from, to }),
-        (Keyword::Close, [Some(from), Some(to), None, _]) => Some(Line::Close { from, to }),
-        _ => None,
+    // A line by the four fields after its keyword. No kind has more than three: a fourth is one too many.
+    fn after(keyword: Keyword, fields: [Option<&'a [u8]>; 4]) -> Option<Line<'a>>
+        ensures { (fs : List (List ℕ)) → map seen fields.entry ≡ padded 4 fs → option_map shown_line result ≡ kind_by keyword fs }
+    {
+        match (keyword, fields) {
+            (Keyword::Duty, [Some(word), bound, None, _]) => Some(Line::Duty { word, bound }),
+            (Keyword::Site, [Some(count), None, ..]) => Some(Line::Site { count }),
+            (Keyword::Queue, [Some(capacity), None, ..]) => Some(Line::Queue { capacity }),
+            (Keyword::Place, [Some(number), Some(side), Some(mark), None]) => Some(Line::Place {
+                number,
+                side,
+                mark,
+            }),
+            (Keyword::Way, [Some(from), Some(to), None, _]) => Some(Line::Way { from, to }),
+            (Keyword::Close, [Some(from), Some(to), None, _]) => Some(Line::Close { from, to }),
+            _ => None,
+        }
     }
 }
 
-// The next line; none at the end of the text.
+// The next line; none at the end of the text. A fault of the cutter's goes up in one of the record's.
 pub(crate) fn next_line<'a>(cutter: &mut Cutter<'a>) -> Result<Option<&'a [u8]>, RecordFault>
     ensures { MatchResult result
         (λ o. Handed cutter.old o cutter.new)

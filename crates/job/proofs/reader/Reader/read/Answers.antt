@@ -9,8 +9,8 @@ use Rattle.job.proofs.reader.Reader.read.Goals as goal
 pub returns-in_err-self : goal.returns-in_err-self
 returns-in_err-self c =
     let p = err_from_is_err_and c.from_residual-in_err-self.result c.from_residual-in_err-self.ensures.1 in
-    rw (p.1, p.2) (sym (c.lines.invariant ∙ handed c.lines.self.cutter c.next_line.new.cutter _ c.in-Some.line c.in-Some.is c.in_ok-line.ensures (state_of c.lines.self.phase) _ (unfit c.in_err-self.field-0.0) c.line_kind.ensures c.in_err-self.ensures))
+    rw (p.1, p.2) (sym (c.loop-line.invariant ∙ handed c.loop-line.self.cutter c.next_line.new.cutter _ c.in-Some.line c.in-Some.is c.in_ok-line.ensures (state_of c.loop-line.self.phase) _ (unfit c.in_err-self.field-0.0) c.read.ensures c.in_err-self.ensures))
 
-pub lines-preserved : goal.lines-preserved
-lines-preserved c =
-    c.lines.invariant ∙ handed c.lines.self.cutter c.next_line.new.cutter _ c.in-Some.line c.in-Some.is c.in_ok-line.ensures (state_of c.lines.self.phase) _ (next (state_of c.in_ok-self.field-0)) c.line_kind.ensures c.in_ok-self.ensures
+pub loop-line-preserved : goal.loop-line-preserved
+loop-line-preserved c =
+    c.loop-line.invariant ∙ handed c.loop-line.self.cutter c.next_line.new.cutter _ c.in-Some.line c.in-Some.is c.in_ok-line.ensures (state_of c.loop-line.self.phase) _ (next (state_of c.in_ok-self.field-0)) c.read.ensures c.in_ok-self.ensures
