@@ -39,6 +39,7 @@ impl<'a> Cutter<'a> {
 
     // The next line without its end; none at the end of the text.
     // No Iterator: its items would be results, and the reader asks for the line's number between them, so the loop gets longer.
+    #[tactic(auto, using(std::proofs::lemmas::List::nil_from_length))]
     pub(crate) fn next(&mut self) -> Result<Option<&'a [u8]>, CutFault>
         ensures { MatchResult result
             (λ o. MatchOption o
@@ -59,6 +60,7 @@ impl<'a> Cutter<'a> {
 }
 
 // The first line of a text that is not empty, and what comes after its end.
+#[tactic(auto, using(crate::proofs::Places::cut_at, crate::proofs::Places::too_long, crate::proofs::Places::not_ended))]
 fn cut_line<'a>(text: &'a [u8], line: usize) -> Result<(&'a [u8], &'a [u8]), CutFault>
     requires { 0 < length text.now }
     ensures { MatchResult result

@@ -1,17 +1,23 @@
 // Parts a line into fields, and reads a field as a number.
-ghost use Rattle.std.specs.Prelude.{◌≡◌, ◌-◌, ◌≤◌, ◌∷◌, map};
-ghost use Rattle.job.specs.Text.{fields};
+ghost use Rattle.std.specs.Prelude.{◌≡◌, ◌-◌, ◌≤◌, ◌==◌, ◌∷◌, map};
+ghost use Rattle.job.specs.Text.{comma, fields};
 ghost use Rattle.job.specs.Number.{number};
 ghost use Rattle.job.specs.Inside.{seen, padded};
 
 // The byte that parts the fields.
 const COMMA: u8 = b',';
 
+fn is_comma(byte: &u8) -> bool
+    ensures { result ≡ byte.now == comma }
+{
+    *byte == COMMA
+}
+
 // A line's first field, and the four after it, as far as it has so many.
 pub(crate) fn first_fields<'a>(line: &'a [u8]) -> (Option<&'a [u8]>, [Option<&'a [u8]>; 4])
     ensures { seen result.0 ∷ map seen result.1 ≡ padded 5 (fields line.now) }
 {
-    let mut fields = line.split(|byte| *byte == COMMA);
+    let mut fields = line.split(is_comma);
     (
         fields.next(),
         [fields.next(), fields.next(), fields.next(), fields.next()],
