@@ -16,7 +16,6 @@ use Rattle.job.specs.Reading.{State, due_duty, due_map, due_close, Ruling, next,
 use Rattle.job.specs.Spelling.{SaysDuty, SaysMap}
 use Rattle.job.specs.Laws.{BeginsFit, Why, early_end, torn_line, long_line, unfit_line, Blames, ReadLaw}
 use Rattle.job.proofs.Cuts.{chain, lines_back, chain_back, lines_chain, lines_all, lines_long}
-use Rattle.job.proofs.Rulings.{no_job}
 use Rattle.job.proofs.Jobs.{map_complete, map_clean, duty_clean, duty_go, reads}
 
 -- lines, the first of them the n-th, lead from a state to a state
@@ -43,12 +42,9 @@ Stuck n t e (cut l rest) = judged n t (kind l) ≡ unfit e
 abbrev Found : ℕ → State → Lines → JobFault → Type 0
 Found n s all e = (ls : List (List ℕ)) × (t : State) × (rest : Lines) × (all ≡ chain ls rest) × Walk n s ls t × Stuck (n + length ls) t e rest
 
-fault_same : (e f : JobFault) → fault e ≡ fault f → f ≡ e
-fault_same e f h = cc
-
 end_fault : (s : State) (n : ℕ) (e : JobFault) → at_end s n ≡ fault e → e ≡ EndsEarly n
-end_fault due_duty n e h = fault_same (EndsEarly n) e h
-end_fault (due_map d) n e h = fault_same (EndsEarly n) e h
+end_fault due_duty n e h = cc
+end_fault (due_map d) n e h = cc
 end_fault (due_close d m) n e h = cc
 
 found_here : (n : ℕ) (s : State) (all : Lines) (e : JobFault) → Stuck n s e all → Found n s all e
@@ -63,12 +59,12 @@ found_step n s l rest e (next t) g h ih =
     let r = ih t h in
     let z : suc n + length r.0 ≡ n + suc (length r.0) = omega arith in
     (l ∷ r.0, r.1, r.2, ap (cut l) r.3, (t, g, r.4), subst (λ (x : ℕ). Stuck x r.1 e r.2) z r.5)
-found_step n s l rest e (unfit f) g h ih = found_here n s (cut l rest) e (g ∙ ap (λ (x : JobFault). unfit x) (sym (fault_same f e h)))
+found_step n s l rest e (unfit f) g h ih = found_here n s (cut l rest) e cc
 
 found : (n : ℕ) (s : State) (all : Lines) (e : JobFault) → reading s n all ≡ fault e → Found n s all e
 found n s done e h = found_here n s done e (end_fault s n e h)
-found n s torn e h = found_here n s torn e (fault_same (Record (Cut (NoEnd n))) e h)
-found n s long e h = found_here n s long e (fault_same (Record (Cut (TooLong n))) e h)
+found n s torn e h = found_here n s torn e cc
+found n s long e h = found_here n s long e cc
 found n s (cut l rest) e h = found_step n s l rest e (judged n s (kind l)) refl h (λ t g. found (suc n) t rest e g)
 
 -- an unfit ruling of line n names that line, and has no number of the cutter's
@@ -161,7 +157,7 @@ module _ (ls : List (List ℕ)) (clean : Cleans ls) (t : State) (w : Walk 1 due_
       let j = b.0 in
       let more = b.1 in
       let g = ap outcome (append_assoc (text_of ls) head more) ∙ goes_on (head ++ more) ∙ stop more in
-      no_job e j (sym g ∙ (reads ((text_of ls ++ head) ++ more) j).1 b.2)
+      cc (sym g ∙ (reads ((text_of ls ++ head) ++ more) j).1 b.2)
 
   reason : (rest : List ℕ) (all : Lines) (e : JobFault) → lines rest ≡ all → Stuck (1 + length ls) t e all
       → Why (text_of ls) rest (1 + length ls) e

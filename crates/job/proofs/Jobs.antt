@@ -10,10 +10,7 @@ use Rattle.job.specs.Spelling.{FitBound, SaysDuty, SaysMap, Spells}
 use Rattle.job.proofs.Cuts.{chain, all_back, lines_all}
 use Rattle.job.proofs.Texts.{Neat, Neats, fields_joined, joined_clean}
 use Rattle.job.proofs.Numbers.{numeral_neat}
-use Rattle.job.proofs.Rulings.{parts, duty_word_is, duty_word_text, never, no_job, next_same, within_next, within_go, worded_next, took, after_job}
-
-job_same : (i j : Job) → job i ≡ job j → j ≡ i
-job_same i j e = cc
+use Rattle.job.proofs.Rulings.{parts, duty_word_is, duty_word_text, within_next, within_go, worded_next, took, after_job}
 
 -- a fit line is judged by its fields
 judged_joined : (n : ℕ) (s : State) (l f : List ℕ) (fs : List (List ℕ)) → Neats (f ∷ fs) → l ≡ joined (f ∷ fs)
@@ -23,17 +20,17 @@ judged_joined n s l f fs h e = ap (λ (x : List ℕ). judged n s (kind x)) e ∙
 -- the lines after the map
 module _ (d : Duty) (m : Map) where
   pub close_step : (n : ℕ) (k : Kind) (t : State) → ruled n (due_close d m) k ≡ next t → ⊥
-  close_step n (duty_line w b) t e = never _ t e
-  close_step n (site_line a) t e = never _ t e
-  close_step n (queue_line a) t e = never _ t e
-  close_step n (place_line v a b) t e = never _ t e
-  close_step n (way_line f g) t e = never _ t e
-  close_step n (close_line f g) t e = never _ t e
+  close_step n (duty_line w b) t e = cc
+  close_step n (site_line a) t e = cc
+  close_step n (queue_line a) t e = cc
+  close_step n (place_line v a b) t e = cc
+  close_step n (way_line f g) t e = cc
+  close_step n (close_line f g) t e = cc
 
   close_sound : (n : ℕ) (rest : Lines) (j : Job) → reading (due_close d m) n rest ≡ job j → (rest ≡ done) × (j ≡ made_job d m)
-  close_sound n done j e = (refl, job_same (made_job d m) j e)
-  close_sound n torn j e = no_job _ j e
-  close_sound n long j e = no_job _ j e
+  close_sound n done j e = (refl, cc)
+  close_sound n torn j e = cc
+  close_sound n long j e = cc
   close_sound n (cut l rest) j e =
       let r = after_job (judged n (due_close d m) (kind l)) (λ t. reading t (suc n) rest) j e in
       let c = took n (due_close d m) r.0 l r.1 in
@@ -43,20 +40,20 @@ module _ (d : Duty) (m : Map) where
 module _ (d : Duty) where
   map_step : (n : ℕ) (k : Kind) (l : List ℕ) (t : State) → l ≡ joined (parts k) → ruled n (due_map d) k ≡ next t
       → (m : Map) × SaysMap m (l ∷ []) × (t ≡ due_close d m)
-  map_step n (duty_line w b) l t h e = never _ t e
-  map_step n (site_line a) l t h e = never _ t e
+  map_step n (duty_line w b) l t h e = cc
+  map_step n (site_line a) l t h e = cc
   map_step n (queue_line a) l t h e =
       let r = within_next n 2 1 capacity_top (λ k. next (due_close d (queue k))) a t e in
-      (queue r.0, (a, r.1, (r.2, omega (arith, r.3)), ap (λ (x : List ℕ). x ∷ []) h), next_same (due_close d (queue r.0)) t r.4)
-  map_step n (place_line v a b) l t h e = never _ t e
-  map_step n (way_line f g) l t h e = never _ t e
-  map_step n (close_line f g) l t h e = never _ t e
+      (queue r.0, (a, r.1, (r.2, omega (arith, r.3)), ap (λ (x : List ℕ). x ∷ []) h), cc (r.4))
+  map_step n (place_line v a b) l t h e = cc
+  map_step n (way_line f g) l t h e = cc
+  map_step n (close_line f g) l t h e = cc
 
   map_sound : (n : ℕ) (rest : Lines) (j : Job) → reading (due_map d) n rest ≡ job j
       → (m : Map) × (ls : List (List ℕ)) × (rest ≡ chain ls done) × SaysMap m ls × (j ≡ made_job d m)
-  map_sound n done j e = no_job _ j e
-  map_sound n torn j e = no_job _ j e
-  map_sound n long j e = no_job _ j e
+  map_sound n done j e = cc
+  map_sound n torn j e = cc
+  map_sound n long j e = cc
   map_sound n (cut l rest) j e =
       let r = after_job (judged n (due_map d) (kind l)) (λ t. reading t (suc n) rest) j e in
       let c = took n (due_map d) r.0 l r.1 in
@@ -90,21 +87,21 @@ bound_high Window b h = omega (arith, h.1)
 bounded_step : (n : ℕ) (b : Option (List ℕ)) (w : DutyWord) (f l : List ℕ) (t : State) → f ≡ word_text w
     → l ≡ joined (parts (duty_line f b)) → bounded n b w ≡ next t → (d : Duty) × SaysDuty d l × (t ≡ due_map d)
 bounded_step n None w f l t g h e =
-    (made_duty w default_bound, inl (refl, h ∙ ap (λ (x : List ℕ). joined (codes "duty" ∷ x ∷ [])) g), next_same (due_map (made_duty w default_bound)) t e)
+    (made_duty w default_bound, inl (refl, h ∙ ap (λ (x : List ℕ). joined (codes "duty" ∷ x ∷ [])) g), cc)
 bounded_step n (Some b) w f l t g h e =
     let r = within_next n 3 1 (bound_top w) (λ k. next (due_map (made_duty w k))) b t e in
-    (made_duty w r.0, inr (b, r.1, fit_bound w r.0 r.2 r.3, h ∙ ap (λ (x : List ℕ). joined (codes "duty" ∷ x ∷ b ∷ [])) g), next_same (due_map (made_duty w r.0)) t r.4)
+    (made_duty w r.0, inr (b, r.1, fit_bound w r.0 r.2 r.3, h ∙ ap (λ (x : List ℕ). joined (codes "duty" ∷ x ∷ b ∷ [])) g), cc (r.4))
 
 duty_step : (n : ℕ) (k : Kind) (l : List ℕ) (t : State) → l ≡ joined (parts k) → ruled n due_duty k ≡ next t
     → (d : Duty) × SaysDuty d l × (t ≡ due_map d)
 duty_step n (duty_line f b) l t h e =
     let r = worded_next n 2 (duty_word f) (bounded n b) t e in
     bounded_step n b r.0 f l t (duty_word_is f r.0 r.1) h r.2
-duty_step n (site_line a) l t h e = never _ t e
-duty_step n (queue_line a) l t h e = never _ t e
-duty_step n (place_line v a b) l t h e = never _ t e
-duty_step n (way_line f g) l t h e = never _ t e
-duty_step n (close_line f g) l t h e = never _ t e
+duty_step n (site_line a) l t h e = cc
+duty_step n (queue_line a) l t h e = cc
+duty_step n (place_line v a b) l t h e = cc
+duty_step n (way_line f g) l t h e = cc
+duty_step n (close_line f g) l t h e = cc
 
 word_neat : (w : DutyWord) → Neat (word_text w)
 word_neat Window = (refl, refl, omega arith)
@@ -130,9 +127,9 @@ duty_go n d l (inr h) =
     ∙ within_go n 3 1 (bound_top d.word) (λ k. next (due_map (made_duty d.word k))) h.0 d.bound h.1 (bound_low d.word d.bound h.2) (bound_high d.word d.bound h.2)
 
 sound : (all : Lines) (j : Job) (text : List ℕ) → lines text ≡ all → reading due_duty 1 all ≡ job j → Spells j text
-sound done j text g e = no_job _ j e
-sound torn j text g e = no_job _ j e
-sound long j text g e = no_job _ j e
+sound done j text g e = cc
+sound torn j text g e = cc
+sound long j text g e = cc
 sound (cut l rest) j text g e =
     let r = after_job (judged 1 due_duty (kind l)) (λ t. reading t 2 rest) j e in
     let c = took 1 due_duty r.0 l r.1 in

@@ -102,23 +102,14 @@ duty_word_is f w e =
 pub duty_word_text : (w : DutyWord) → duty_word (word_text w) ≡ Some w
 duty_word_text Window = refl
 
-pub never : {P : Type 0} (e : JobFault) (s : State) → unfit e ≡ next s → P
-never e s h = cc
-
-pub no_job : {P : Type 0} (e : JobFault) (j : Job) → fault e ≡ job j → P
-no_job e j h = cc
-
-pub next_same : (s t : State) → next s ≡ next t → t ≡ s
-next_same s t e = cc
-
 cond_next : (b : Bool) (r : Ruling) (e : JobFault) (s : State) → cond b r (unfit e) ≡ next s → (b ≡ true) × (r ≡ next s)
 cond_next true r e s h = (refl, h)
-cond_next false r e s h = never e s h
+cond_next false r e s h = cc
 
 module _ (n i low top : ℕ) (go : ℕ → Ruling) where
   ranged_next : (o : Option ℕ) (s : State) → ranged n i low top o go ≡ next s
       → (k : ℕ) × (o ≡ Some k) × (low ≤ k) × (k < top) × (go k ≡ next s)
-  ranged_next None s e = never _ s e
+  ranged_next None s e = cc
   ranged_next (Some k) s e =
       let r = cond_next (leb low k && ltb k top) (go k) (OutOfRange n i) s e in
       let p = and_parts (leb low k) (ltb k top) r.0 in
@@ -137,11 +128,11 @@ module _ (n i low top : ℕ) (go : ℕ → Ruling) where
 
 pub worded_next : {A : Type 0} (n i : ℕ) (o : Option A) (go : A → Ruling) (s : State) → worded n i o go ≡ next s
     → (a : A) × (o ≡ Some a) × (go a ≡ next s)
-worded_next n i None go s e = never _ s e
+worded_next n i None go s e = cc
 worded_next n i (Some a) go s e = (a, refl, e)
 
 judged_next : (n : ℕ) (s t : State) (o : Option Kind) → judged n s o ≡ next t → (k : Kind) × (o ≡ Some k) × (ruled n s k ≡ next t)
-judged_next n s t None e = never (NotDue n) t e
+judged_next n s t None e = cc
 judged_next n s t (Some k) e = (k, refl, e)
 
 -- a line that leads on is of a kind
@@ -153,4 +144,4 @@ took n s t l e =
 
 pub after_job : (r : Ruling) (go : State → Outcome) (j : Job) → after r go ≡ job j → (s : State) × (r ≡ next s) × (go s ≡ job j)
 after_job (next s) go j e = (s, refl, e)
-after_job (unfit f) go j e = no_job f j e
+after_job (unfit f) go j e = cc
