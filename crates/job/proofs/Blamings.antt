@@ -1,18 +1,15 @@
 -- A fault's line is the first that no job's text can have there.
-use Rattle.std.proofs.Common.{◌≡◌, ℕ, suc, ◌+◌, ◌≤◌, ◌&&◌, ltb, leb, List, [], ◌∷◌, ◌++◌, length, Some, None, codes, Option, sym, refl, ap, ◌∙◌, subst, inl, append_assoc, arith}
-use Rattle.std.proofs.lemmas.Bool.{cond_both}
-use Rattle.job.specs.declared.records.DutyWord.{DutyWord}
+use Rattle.std.proofs.Common.{◌≡◌, ℕ, suc, ◌+◌, ◌≤◌, List, [], ◌∷◌, ◌++◌, length, codes, Option, sym, refl, ap, ◌∙◌, subst, inl, append_assoc, arith}
 use Rattle.job.specs.declared.records.DutyWord.TheVariants.{Window}
 use Rattle.job.specs.declared.faults.CutFault.TheVariants.{NoEnd, TooLong}
 use Rattle.job.specs.declared.faults.RecordFault.TheVariants.{Cut}
 use Rattle.job.specs.declared.faults.JobFault.{JobFault}
-use Rattle.job.specs.declared.faults.JobFault.TheVariants.{Record, EndsEarly, OutOfRange}
+use Rattle.job.specs.declared.faults.JobFault.TheVariants.{Record, EndsEarly}
 use Rattle.job.specs.Text.{line_end, Lines, done, torn, long, cut, lines, joined, text_of, Cleans}
-use Rattle.job.specs.Number.{number}
-use Rattle.job.specs.Job.{Duty, queue, Job, made_duty, made_job, bound_top, default_bound, capacity_top}
-use Rattle.job.specs.Kind.{Kind, duty_line, site_line, queue_line, place_line, way_line, close_line, kind}
+use Rattle.job.specs.Job.{Duty, queue, Job, made_duty, made_job, default_bound}
+use Rattle.job.specs.Kind.{Kind, kind}
 use Rattle.job.specs.Faults.{report}
-use Rattle.job.specs.Reading.{State, due_duty, due_map, due_close, Ruling, next, unfit, ranged, worded, duty_word, bounded, ruled, judged, job, fault, at_end, after, reading, outcome}
+use Rattle.job.specs.Reading.{State, due_duty, due_map, due_close, Ruling, next, unfit, judged, job, fault, at_end, after, reading, outcome}
 use Rattle.job.specs.Spelling.{SaysDuty, SaysMap}
 use Rattle.job.specs.Laws.{BeginsFit, Why, early_end, torn_line, long_line, unfit_line, Blames, ReadLaw}
 use Rattle.job.proofs.Cuts.{chain, lines_back, chain_back, lines_chain, lines_all, lines_long}
@@ -43,9 +40,7 @@ abbrev Found : ℕ → State → Lines → JobFault → Type 0
 Found n s all e = (ls : List (List ℕ)) × (t : State) × (rest : Lines) × (all ≡ chain ls rest) × Walk n s ls t × Stuck (n + length ls) t e rest
 
 end_fault : (s : State) (n : ℕ) (e : JobFault) → at_end s n ≡ fault e → e ≡ EndsEarly n
-end_fault due_duty n e h = cc
-end_fault (due_map d) n e h = cc
-end_fault (due_close d m) n e h = cc
+end_fault s n e h = grind arith
 
 found_here : (n : ℕ) (s : State) (all : Lines) (e : JobFault) → Stuck n s e all → Found n s all e
 found_here n s all e h =
@@ -67,53 +62,18 @@ found n s torn e h = found_here n s torn e cc
 found n s long e h = found_here n s long e cc
 found n s (cut l rest) e h = found_step n s l rest e (judged n s (kind l)) refl h (λ t g. found (suc n) t rest e g)
 
--- an unfit ruling of line n names that line, and has no number of the cutter's
-abbrev Names : ℕ → Ruling → Type 0
-Names n (next s) = Unit {0}
-Names n (unfit e) = ((report e).line ≡ n) × (12 ≤ (report e).number)
+-- a fault of line n names that line, and where it is the line's own its number is none of the cutter's
+judged_line : (n : ℕ) (s : State) (o : Option Kind) (e : JobFault) → judged n s o ≡ unfit e → (report e).line ≡ n
+judged_line n s o e h = grind arith
 
-module _ (n : ℕ) where
-  within_names : (i low top : ℕ) (o : Option ℕ) (go : ℕ → Ruling) → ((k : ℕ) → Names n (go k)) → Names n (ranged n i low top o go)
-  within_names i low top None go h = (refl, omega arith)
-  within_names i low top (Some k) go h = cond_both (leb low k && ltb k top) (go k) (unfit (OutOfRange n i)) (Names n) (λ _. h k) (λ _. (refl, omega arith))
+judged_number : (n : ℕ) (s : State) (o : Option Kind) (e : JobFault) → judged n s o ≡ unfit e → 12 ≤ (report e).number
+judged_number n s o e h = grind arith
 
-  bounded_names : (b : Option (List ℕ)) (w : DutyWord) → Names n (bounded n b w)
-  bounded_names None w = tt
-  bounded_names (Some b) w = within_names 3 1 (bound_top w) (number b) (λ k. next (due_map (made_duty w k))) (λ k. tt)
-
-  worded_names : {A : Type 0} (i : ℕ) (o : Option A) (go : A → Ruling) → ((a : A) → Names n (go a)) → Names n (worded n i o go)
-  worded_names i None go h = (refl, omega arith)
-  worded_names i (Some a) go h = h a
-
-  ruled_names : (s : State) (k : Kind) → Names n (ruled n s k)
-  ruled_names due_duty (duty_line w b) = worded_names 2 (duty_word w) (bounded n b) (bounded_names b)
-  ruled_names due_duty (site_line a) = (refl, omega arith)
-  ruled_names due_duty (queue_line a) = (refl, omega arith)
-  ruled_names due_duty (place_line v a b) = (refl, omega arith)
-  ruled_names due_duty (way_line f t) = (refl, omega arith)
-  ruled_names due_duty (close_line f t) = (refl, omega arith)
-  ruled_names (due_map d) (duty_line w b) = (refl, omega arith)
-  ruled_names (due_map d) (site_line a) = (refl, omega arith)
-  ruled_names (due_map d) (queue_line a) = within_names 2 1 capacity_top (number a) (λ k. next (due_close d (queue k))) (λ k. tt)
-  ruled_names (due_map d) (place_line v a b) = (refl, omega arith)
-  ruled_names (due_map d) (way_line f t) = (refl, omega arith)
-  ruled_names (due_map d) (close_line f t) = (refl, omega arith)
-  ruled_names (due_close d m) (duty_line w b) = (refl, omega arith)
-  ruled_names (due_close d m) (site_line a) = (refl, omega arith)
-  ruled_names (due_close d m) (queue_line a) = (refl, omega arith)
-  ruled_names (due_close d m) (place_line v a b) = (refl, omega arith)
-  ruled_names (due_close d m) (way_line f t) = (refl, omega arith)
-  ruled_names (due_close d m) (close_line f t) = (refl, omega arith)
-
-  judged_names : (s : State) (o : Option Kind) → Names n (judged n s o)
-  judged_names s None = (refl, omega arith)
-  judged_names s (Some k) = ruled_names s k
-
-  stuck_names : (t : State) (e : JobFault) (rest : Lines) → Stuck n t e rest → (report e).line ≡ n
-  stuck_names t e done h = ap (λ (x : JobFault). (report x).line) h
-  stuck_names t e torn h = ap (λ (x : JobFault). (report x).line) h
-  stuck_names t e long h = ap (λ (x : JobFault). (report x).line) h
-  stuck_names t e (cut l rest) h = (subst (Names n) h (judged_names t (kind l))).0
+stuck_line : (n : ℕ) (t : State) (e : JobFault) (rest : Lines) → Stuck n t e rest → (report e).line ≡ n
+stuck_line n t e done h = grind arith
+stuck_line n t e torn h = grind arith
+stuck_line n t e long h = grind arith
+stuck_line n t e (cut l rest) h = judged_line n t (kind l) e h
 
 -- some lines make a job of what has come
 abbrev Completes : State → Type 0
@@ -172,7 +132,7 @@ module _ (ls : List (List ℕ)) (clean : Cleans ls) (t : State) (w : Walk 1 due_
       unfit_line l b.0 b.1 b.2
       (none_fit (l ++ (line_end ∷ [])) e
       (λ more. ap (reading t (1 + length ls)) (lines_chain (l ∷ []) more (b.2, tt)) ∙ ap (λ (x : Ruling). after x (λ u. reading u (suc (1 + length ls)) (lines more))) s))
-      (subst (Names (1 + length ls)) s (judged_names (1 + length ls) t (kind l))).1
+      (judged_number (1 + length ls) t (kind l) e s)
 
 blames : (text : List ℕ) (e : JobFault) → outcome text ≡ fault e → Blames text e
 blames text e h =
@@ -184,7 +144,7 @@ blames text e h =
       rest = b.0;
       split = b.1;
       clean = b.2;
-      numbered = stuck_names (1 + length r.0) r.1 e r.2 r.5 ∙ z;
+      numbered = stuck_line (1 + length r.0) r.1 e r.2 r.5 ∙ z;
       fit_so_far = fit_before r.0 b.2 r.1 r.4;
       why = subst (λ (x : ℕ). Why (text_of r.0) b.0 x e) z (reason r.0 b.2 r.1 r.4 b.0 r.2 e b.3 r.5);
     }

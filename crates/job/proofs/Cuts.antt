@@ -1,6 +1,7 @@
 -- What the lines that are cut say of the text, and which lines are cut from a text.
-use Rattle.std.proofs.Common.{◌≡◌, ℕ, suc, ◌+◌, ◌<◌, ◌≤◌, true, false, cond, not, eqb, ltb, List, [], ◌∷◌, ◌++◌, length, sym, refl, ap, ◌∙◌, subst, ⊎_elim, append_assoc, append-nil, arith}
-use Rattle.std.proofs.lemmas.Bool.{cases_lt, cond-true, cond-false, cond_both, lt-ltb, le-ltb, ltb-true, ltb-false, and_parts, and_from, not-true, not_from_false, eqb-true}
+use Rattle.std.proofs.Common.{◌≡◌, ℕ, suc, ◌+◌, ◌<◌, ◌≤◌, true, false, cond, not, eqb, ltb, List, [], ◌∷◌, ◌++◌, length, sym, refl, ap, ◌∙◌, subst, append_assoc, append-nil, arith}
+use Rattle.std.proofs.lemmas.Bool.{cond_both, ltb-true, ltb-false, and_from, not_from_false, eqb-true}
+use Rattle.std.proofs.lemmas.Bool.Decides.{nat_tests}
 use Rattle.std.proofs.lemmas.List.{length_push}
 use Rattle.job.proofs.Texts.{lacks_append}
 use Rattle.job.specs.Text.{line_end, line_limit, Lines, done, torn, long, cut, left, lines_from, lines, lacks, text_of, Clean, Cleans}
@@ -51,40 +52,21 @@ all_back text ls e =
     let r = chain_back text ls done e in
     r.1 ∙ ap (λ (x : List ℕ). text_of ls ++ x) (lines_back r.0 done r.3) ∙ append-nil (text_of ls)
 
-on_push : (so_far : List ℕ) (b : ℕ) (bs : List ℕ) → eqb b line_end ≡ false → length so_far < line_limit
-    → lines_from so_far (b ∷ bs) ≡ lines_from (so_far ++ (b ∷ [])) bs
-on_push so_far b bs f l =
-    cond-false (eqb b line_end) (cut so_far (lines bs)) (cond (ltb (length so_far) line_limit) (lines_from (so_far ++ (b ∷ [])) bs) long) f
-    ∙ cond-true (ltb (length so_far) line_limit) (lines_from (so_far ++ (b ∷ [])) bs) long (lt-ltb (length so_far) line_limit l)
-
-first_other : (b : ℕ) (bs : List ℕ) → lacks line_end (b ∷ bs) ≡ true → (eqb b line_end ≡ false) × (lacks line_end bs ≡ true)
-first_other b bs c = let p = and_parts (not (eqb b line_end)) (lacks line_end bs) c in (not-true (eqb b line_end) p.0, p.1)
-
 line_on : (so_far l rest : List ℕ) → lacks line_end l ≡ true → length so_far + length l ≤ line_limit
     → lines_from so_far (l ++ (line_end ∷ rest)) ≡ cut (so_far ++ l) (lines rest)
-line_on so_far [] rest c h = ap (λ (x : List ℕ). cut x (lines rest)) (sym (append-nil so_far))
-line_on so_far (b ∷ bs) rest c h =
-    let p = first_other b bs c in
-    on_push so_far b (bs ++ (line_end ∷ rest)) p.0 (omega arith)
-    ∙ line_on (so_far ++ (b ∷ [])) bs rest p.1 (omega (arith, length_push so_far b))
-    ∙ ap (λ (x : List ℕ). cut x (lines rest)) (append_assoc so_far (b ∷ []) bs)
+line_on so_far [] rest c h = grind (arith, append-nil)
+line_on so_far (b ∷ bs) rest c h = grind (arith, nat_tests, append_assoc, length_push, line_on (so_far ++ (b ∷ [])) bs rest)
 
 pub lines_line : (l rest : List ℕ) → Clean l → lines (l ++ (line_end ∷ rest)) ≡ cut l (lines rest)
 lines_line l rest c = line_on [] l rest c.0 (omega (arith, c.1))
 
 torn_on : (so_far text : List ℕ) → lacks line_end text ≡ true → length so_far + length text ≤ line_limit
     → lines_from so_far text ≡ left (so_far ++ text)
-torn_on so_far [] c h = ap left (sym (append-nil so_far))
-torn_on so_far (b ∷ bs) c h =
-    let p = first_other b bs c in
-    on_push so_far b bs p.0 (omega arith) ∙ torn_on (so_far ++ (b ∷ [])) bs p.1 (omega (arith, length_push so_far b)) ∙ ap left (append_assoc so_far (b ∷ []) bs)
-
-left_some : (text : List ℕ) → 0 < length text → left text ≡ torn
-left_some [] h = absurd (omega arith)
-left_some (b ∷ bs) h = refl
+torn_on so_far [] c h = grind (arith, append-nil)
+torn_on so_far (b ∷ bs) c h = grind (arith, nat_tests, append_assoc, length_push, torn_on (so_far ++ (b ∷ [])) bs)
 
 pub lines_torn : (text : List ℕ) → Clean text → 0 < length text → lines text ≡ torn
-lines_torn text c h = torn_on [] text c.0 (omega (arith, c.1)) ∙ left_some text h
+lines_torn text c h = torn_on [] text c.0 (omega (arith, c.1)) ∙ grind arith
 
 pub lines_chain : (ls : List (List ℕ)) (text : List ℕ) → Cleans ls → lines (text_of ls ++ text) ≡ chain ls (lines text)
 lines_chain [] text c = refl
@@ -98,16 +80,8 @@ lines_all ls c = ap lines (sym (append-nil (text_of ls))) ∙ lines_chain ls [] 
 
 long_on : (so_far head tail : List ℕ) → lacks line_end head ≡ true → length so_far ≤ line_limit
     → length so_far + length head ≡ suc line_limit → lines_from so_far (head ++ tail) ≡ long
-long_on so_far [] tail c h e = absurd (omega arith)
-long_on so_far (b ∷ bs) tail c h e =
-    let p = first_other b bs c in
-    let whole = bs ++ tail in
-    ⊎_elim
-    (λ l. on_push so_far b whole p.0 l ∙ long_on (so_far ++ (b ∷ [])) bs tail p.1 (omega (arith, l, length_push so_far b)) (omega (arith, e, length_push so_far b)))
-    (λ g.
-    cond-false (eqb b line_end) (cut so_far (lines whole)) (cond (ltb (length so_far) line_limit) (lines_from (so_far ++ (b ∷ [])) whole) long) p.0
-    ∙ cond-false (ltb (length so_far) line_limit) (lines_from (so_far ++ (b ∷ [])) whole) long (le-ltb (length so_far) line_limit g))
-    (cases_lt (length so_far) line_limit)
+long_on so_far [] tail c h e = grind arith
+long_on so_far (b ∷ bs) tail c h e = grind (arith, nat_tests, append_assoc, length_push, long_on (so_far ++ (b ∷ [])) bs tail)
 
 pub lines_long : (head tail : List ℕ) → lacks line_end head ≡ true → length head ≡ suc line_limit → lines (head ++ tail) ≡ long
 lines_long head tail c e = long_on [] head tail c (omega arith) (omega arith)

@@ -19,13 +19,8 @@ judged_joined n s l f fs h e = ap (λ (x : List ℕ). judged n s (kind x)) e ∙
 
 -- the lines after the map
 module _ (d : Duty) (m : Map) where
-  pub close_step : (n : ℕ) (k : Kind) (t : State) → ruled n (due_close d m) k ≡ next t → ⊥
-  close_step n (duty_line w b) t e = cc
-  close_step n (site_line a) t e = cc
-  close_step n (queue_line a) t e = cc
-  close_step n (place_line v a b) t e = cc
-  close_step n (way_line f g) t e = cc
-  close_step n (close_line f g) t e = cc
+  close_step : (n : ℕ) (k : Kind) (t : State) → ruled n (due_close d m) k ≡ next t → ⊥
+  close_step n k t e = grind arith
 
   close_sound : (n : ℕ) (rest : Lines) (j : Job) → reading (due_close d m) n rest ≡ job j → (rest ≡ done) × (j ≡ made_job d m)
   close_sound n done j e = (refl, cc)
