@@ -13,7 +13,7 @@ pub enum CutFault {
     TooLong { line: usize },
 }
 
-// A field cannot be read.
+// A field cannot be read. Its line and its place stand in each case, and not in a struct: callers match on the cases.
 #[derive(Clone, Copy, Debug)]
 pub enum RecordFault {
     Cut(CutFault),
@@ -86,6 +86,7 @@ impl JobFault {
     }
 
     // The field, from 1 on, the keyword being the first; 0 where the fault names none.
+    // A number and no Option: it is the number that the refusal's line prints.
     pub fn field(self) -> u8
         ensures { result ≡ (report self).field }
     {
