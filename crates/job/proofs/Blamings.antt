@@ -22,12 +22,8 @@ Walk n s (l ∷ ls) t = (u : State) × (judged n s (kind l) ≡ next u) × Walk 
 
 read_walk : (n : ℕ) (s t : State) (ls : List (List ℕ)) (rest : Lines) → Walk n s ls t
     → reading s n (chain ls rest) ≡ reading t (n + length ls) rest
-read_walk n s t [] rest w =
-    let z : n ≡ n + 0 = omega arith in
-    ap (λ (x : State). reading x n rest) w ∙ ap (λ (x : ℕ). reading t x rest) z
-read_walk n s t (l ∷ ls) rest w =
-    let z : suc n + length ls ≡ n + suc (length ls) = omega arith in
-    ap (λ (x : Ruling). after x (λ u. reading u (suc n) (chain ls rest))) w.1 ∙ read_walk (suc n) w.0 t ls rest w.2 ∙ ap (λ (x : ℕ). reading t x rest) z
+read_walk n s t [] rest w = grind arith
+read_walk n s t (l ∷ ls) rest w = grind (arith, w.1, read_walk (suc n) w.0 t ls rest w.2)
 
 -- why lines lead no further where line n is due
 abbrev Stuck : ℕ → State → JobFault → Lines → Type 0

@@ -1,6 +1,6 @@
 -- What the lines that are cut say of the text, and which lines are cut from a text.
-use Rattle.std.proofs.Common.{◌≡◌, ℕ, suc, ◌+◌, ◌<◌, ◌≤◌, true, false, cond, not, eqb, ltb, List, [], ◌∷◌, ◌++◌, length, sym, refl, ap, ◌∙◌, subst, append_assoc, append-nil, arith}
-use Rattle.std.proofs.lemmas.Bool.{cond_both, ltb-true, ltb-false, and_from, not_from_false, eqb-true}
+use Rattle.std.proofs.Common.{◌≡◌, ℕ, suc, ◌+◌, ◌<◌, ◌≤◌, true, false, cond, eqb, ltb, List, [], ◌∷◌, ◌++◌, length, sym, refl, ap, ◌∙◌, subst, append_assoc, append-nil, arith}
+use Rattle.std.proofs.lemmas.Bool.{cond_both, ltb-true, ltb-false, eqb-true}
 use Rattle.std.proofs.lemmas.Bool.Decides.{nat_tests}
 use Rattle.std.proofs.lemmas.List.{length_push}
 use Rattle.job.proofs.Texts.{lacks_append}
@@ -12,7 +12,7 @@ chain [] rest = rest
 chain (l ∷ ls) rest = cut l (chain ls rest)
 
 lacks_push : (l : List ℕ) (x : ℕ) → lacks line_end l ≡ true → eqb x line_end ≡ false → lacks line_end (l ++ (x ∷ [])) ≡ true
-lacks_push l x c e = lacks_append line_end l (x ∷ []) c (and_from (not (eqb x line_end)) true (not_from_false (eqb x line_end) e) refl)
+lacks_push l x c e = grind (arith, nat_tests, lacks_append)
 
 -- what a text is, by what it is cut into
 abbrev pub Back : List ℕ → Lines → Type 0
@@ -48,9 +48,7 @@ chain_back text (l ∷ ls) rest e =
 
 -- a text that is cut into these lines and no more is these lines
 pub all_back : (text : List ℕ) (ls : List (List ℕ)) → lines text ≡ chain ls done → text ≡ text_of ls
-all_back text ls e =
-    let r = chain_back text ls done e in
-    r.1 ∙ ap (λ (x : List ℕ). text_of ls ++ x) (lines_back r.0 done r.3) ∙ append-nil (text_of ls)
+all_back text ls e = let r = chain_back text ls done e in grind (arith, r.1, lines_back r.0 done r.3, append-nil)
 
 line_on : (so_far l rest : List ℕ) → lacks line_end l ≡ true → length so_far + length l ≤ line_limit
     → lines_from so_far (l ++ (line_end ∷ rest)) ≡ cut (so_far ++ l) (lines rest)
@@ -70,13 +68,10 @@ lines_torn text c h = torn_on [] text c.0 (omega (arith, c.1)) ∙ grind arith
 
 pub lines_chain : (ls : List (List ℕ)) (text : List ℕ) → Cleans ls → lines (text_of ls ++ text) ≡ chain ls (lines text)
 lines_chain [] text c = refl
-lines_chain (l ∷ ls) text c =
-    ap lines (append_assoc l (line_end ∷ text_of ls) text)
-    ∙ lines_line l (text_of ls ++ text) c.0
-    ∙ ap (cut l) (lines_chain ls text c.1)
+lines_chain (l ∷ ls) text c = grind (arith, append_assoc, lines_line l (text_of ls ++ text) c.0, lines_chain ls text c.1)
 
 pub lines_all : (ls : List (List ℕ)) → Cleans ls → lines (text_of ls) ≡ chain ls done
-lines_all ls c = ap lines (sym (append-nil (text_of ls))) ∙ lines_chain ls [] c
+lines_all ls c = grind (arith, append-nil, lines_chain ls [] c)
 
 long_on : (so_far head tail : List ℕ) → lacks line_end head ≡ true → length so_far ≤ line_limit
     → length so_far + length head ≡ suc line_limit → lines_from so_far (head ++ tail) ≡ long

@@ -4,8 +4,8 @@ use Rattle.job.specs.declared.records.DutyWord.{DutyWord}
 use Rattle.job.specs.declared.records.DutyWord.TheVariants.{Window}
 use Rattle.job.specs.Text.{Lines, done, torn, long, cut, lines, joined, Clean, Cleans}
 use Rattle.job.specs.Job.{Duty, Map, queue, Job, made_duty, made_job, word_text, bound_top, default_bound, capacity_top}
-use Rattle.job.specs.Kind.{Kind, duty_line, site_line, queue_line, place_line, way_line, close_line, kind_of_fields, kind}
-use Rattle.job.specs.Reading.{State, due_duty, due_map, due_close, Ruling, next, worded, duty_word, bounded, ruled, judged, job, after, reading, outcome}
+use Rattle.job.specs.Kind.{Kind, duty_line, queue_line, kind_of_fields, kind}
+use Rattle.job.specs.Reading.{State, within, due_duty, due_map, due_close, Ruling, next, worded, duty_word, bounded, ruled, judged, job, after, reading, outcome}
 use Rattle.job.specs.Spelling.{FitBound, SaysDuty, SaysMap, Spells}
 use Rattle.job.proofs.Cuts.{chain, all_back, lines_all}
 use Rattle.job.proofs.Texts.{Neat, Neats, fields_joined, joined_clean}
@@ -33,16 +33,16 @@ module _ (d : Duty) (m : Map) where
 
 -- the lines of the map
 module _ (d : Duty) where
+  queue_line_is : (n : ℕ) (k : Kind) (t : State) → ruled n (due_map d) k ≡ next t
+      → (a : List ℕ) × (k ≡ queue_line a) × (within n 2 1 capacity_top a (λ q. next (due_close d (queue q))) ≡ next t)
+  queue_line_is n k t e = grind arith
+
   map_step : (n : ℕ) (k : Kind) (l : List ℕ) (t : State) → l ≡ joined (parts k) → ruled n (due_map d) k ≡ next t
       → (m : Map) × SaysMap m (l ∷ []) × (t ≡ due_close d m)
-  map_step n (duty_line w b) l t h e = cc
-  map_step n (site_line a) l t h e = cc
-  map_step n (queue_line a) l t h e =
-      let r = within_next n 2 1 capacity_top (λ k. next (due_close d (queue k))) a t e in
-      (queue r.0, (a, r.1, (r.2, omega (arith, r.3)), ap (λ (x : List ℕ). x ∷ []) h), cc (r.4))
-  map_step n (place_line v a b) l t h e = cc
-  map_step n (way_line f g) l t h e = cc
-  map_step n (close_line f g) l t h e = cc
+  map_step n k l t h e =
+      let r = queue_line_is n k t e in
+      let q = within_next n 2 1 capacity_top (λ q. next (due_close d (queue q))) r.0 t r.2 in
+      (queue q.0, (r.0, q.1, (q.2, omega (arith, q.3)), grind (arith, r.1)), cc (q.4))
 
   map_sound : (n : ℕ) (rest : Lines) (j : Job) → reading (due_map d) n rest ≡ job j
       → (m : Map) × (ls : List (List ℕ)) × (rest ≡ chain ls done) × SaysMap m ls × (j ≡ made_job d m)
@@ -87,16 +87,16 @@ bounded_step n (Some b) w f l t g h e =
     let r = within_next n 3 1 (bound_top w) (λ k. next (due_map (made_duty w k))) b t e in
     (made_duty w r.0, inr (b, r.1, fit_bound w r.0 r.2 r.3, h ∙ ap (λ (x : List ℕ). joined (codes "duty" ∷ x ∷ b ∷ [])) g), cc (r.4))
 
+duty_line_is : (n : ℕ) (k : Kind) (t : State) → ruled n due_duty k ≡ next t
+    → (f : List ℕ) × (b : Option (List ℕ)) × (k ≡ duty_line f b) × (worded n 2 (duty_word f) (bounded n b) ≡ next t)
+duty_line_is n k t e = grind arith
+
 duty_step : (n : ℕ) (k : Kind) (l : List ℕ) (t : State) → l ≡ joined (parts k) → ruled n due_duty k ≡ next t
     → (d : Duty) × SaysDuty d l × (t ≡ due_map d)
-duty_step n (duty_line f b) l t h e =
-    let r = worded_next n 2 (duty_word f) (bounded n b) t e in
-    bounded_step n b r.0 f l t (duty_word_is f r.0 r.1) h r.2
-duty_step n (site_line a) l t h e = cc
-duty_step n (queue_line a) l t h e = cc
-duty_step n (place_line v a b) l t h e = cc
-duty_step n (way_line f g) l t h e = cc
-duty_step n (close_line f g) l t h e = cc
+duty_step n k l t h e =
+    let r = duty_line_is n k t e in
+    let w = worded_next n 2 (duty_word r.0) (bounded n r.1) t r.3 in
+    bounded_step n r.1 w.0 r.0 l t (duty_word_is r.0 w.0 w.1) (h ∙ ap (λ (x : Kind). joined (parts x)) r.2) w.2
 
 word_neat : (w : DutyWord) → Neat (word_text w)
 word_neat Window = (refl, refl, omega arith)
