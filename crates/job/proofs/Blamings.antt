@@ -1,5 +1,5 @@
 -- A fault's line is the first that no job's text can have there.
-use Rattle.std.proofs.Common.{◌≡◌, ℕ, suc, ◌+◌, ◌≤◌, List, [], ◌∷◌, ◌++◌, length, codes, Option, sym, refl, ap, ◌∙◌, subst, inl, append_assoc, arith}
+use Rattle.std.proofs.Common.{◌≡◌, ℕ, suc, ◌+◌, ◌≤◌, List, [], ◌∷◌, ◌++◌, length, codes, Option, sym, refl, ap, ◌∙◌, subst, inl, append_assoc, add-zero, arith}
 use Rattle.job.specs.declared.records.DutyWord.TheVariants.{Window}
 use Rattle.job.specs.declared.faults.CutFault.TheVariants.{NoEnd, TooLong}
 use Rattle.job.specs.declared.faults.RecordFault.TheVariants.{Cut}
@@ -40,8 +40,7 @@ end_fault s n e h = grind arith
 
 found_here : (n : ℕ) (s : State) (all : Lines) (e : JobFault) → Stuck n s e all → Found n s all e
 found_here n s all e h =
-    let z : n ≡ n + 0 = omega arith in
-    ([], s, all, refl, refl, subst (λ (x : ℕ). Stuck x s e all) z h)
+    ([], s, all, refl, refl, rw (add-zero n) h)
 
 found_step : (n : ℕ) (s : State) (l : List ℕ) (rest : Lines) (e : JobFault) (r : Ruling) → judged n s (kind l) ≡ r
     → after r (λ t. reading t (suc n) rest) ≡ fault e

@@ -44,7 +44,7 @@ chain_back text [] rest e = (text, refl, tt, e)
 chain_back text (l ∷ ls) rest e =
     let r = lines_back text (cut l (chain ls rest)) e in
     let ih = chain_back r.0 ls rest r.3 in
-    (ih.0, r.1 ∙ ap (λ (x : List ℕ). l ++ (line_end ∷ x)) ih.1 ∙ sym (append_assoc l (line_end ∷ text_of ls) ih.0), (r.2, ih.2), ih.3)
+    (ih.0, grind (arith, r.1, ih.1, append_assoc), (r.2, ih.2), ih.3)
 
 -- a text that is cut into these lines and no more is these lines
 pub all_back : (text : List ℕ) (ls : List (List ℕ)) → lines text ≡ chain ls done → text ≡ text_of ls

@@ -15,7 +15,7 @@ use Rattle.job.proofs.Rulings.{parts, duty_word_is, duty_word_text, within_next,
 -- a fit line is judged by its fields
 judged_joined : (n : ℕ) (s : State) (l f : List ℕ) (fs : List (List ℕ)) → Neats (f ∷ fs) → l ≡ joined (f ∷ fs)
     → judged n s (kind l) ≡ judged n s (kind_of_fields (f ∷ fs))
-judged_joined n s l f fs h e = ap (λ (x : List ℕ). judged n s (kind x)) e ∙ ap (λ (x : List (List ℕ)). judged n s (kind_of_fields x)) (fields_joined f fs h)
+judged_joined n s l f fs h e = grind (arith, fields_joined f fs h)
 
 -- the lines after the map
 module _ (d : Duty) (m : Map) where
@@ -26,10 +26,7 @@ module _ (d : Duty) (m : Map) where
   close_sound n done j e = (refl, cc)
   close_sound n torn j e = cc
   close_sound n long j e = cc
-  close_sound n (cut l rest) j e =
-      let r = after_job (judged n (due_close d m) (kind l)) (λ t. reading t (suc n) rest) j e in
-      let c = took n (due_close d m) r.0 l r.1 in
-      absurd (close_step n c.0 r.0 c.2)
+  close_sound n (cut l rest) j e = absurd (grind (arith, close_step n))
 
 -- the lines of the map
 module _ (d : Duty) where
@@ -142,9 +139,7 @@ sound (cut l rest) j text g e =
 complete : (j : Job) (text : List ℕ) → Spells j text → outcome text ≡ job j
 complete j text h =
     let clean : Cleans (h.first ∷ h.others) = (duty_clean j.duty h.first h.duty_said, map_clean j.map h.others h.map_said) in
-    ap (reading due_duty 1) (ap lines h.whole ∙ lines_all (h.first ∷ h.others) clean)
-    ∙ ap (λ (x : Ruling). after x (λ t. reading t 2 (chain h.others done))) (duty_go 1 j.duty h.first h.duty_said)
-    ∙ map_complete j.duty 2 j.map h.others h.map_said
+    grind (arith, h.whole, lines_all (h.first ∷ h.others) clean, duty_go 1 j.duty h.first h.duty_said, map_complete j.duty 2 j.map h.others h.map_said)
 
 pub reads : (text : List ℕ) (j : Job) → (outcome text ≡ job j → Spells j text) × (Spells j text → outcome text ≡ job j)
 reads text j = (sound (lines text) j text refl, complete j text)
