@@ -1,7 +1,7 @@
 -- A line ends at the first LF, if one comes in time.
-use Rattle.std.proofs.Common.{◌≡◌, ℕ, ◌+◌, ◌-◌, ◌<◌, ◌≤◌, ◌==◌, true, not, List, ◌∷◌, ◌++◌, length, take, drop, position, Some, None, sym, ap, Option, get_or, eqb, ltb, ◌∙◌, arith, ⊎_elim, take-append-drop, length-take}
-use Rattle.std.specs.List.{position_or_len}
-use Rattle.std.proofs.lemmas.Bool.{cases_lt, cond-true, lt-ltb, eqb-true, not_from_false}
+use Rattle.std.proofs.Common.{◌≡◌, ℕ, ◌+◌, ◌-◌, ◌<◌, ◌≤◌, ◌==◌, true, not, List, length, take, drop, position, Some, None, sym, ap, Option, get_or, eqb, ◌∙◌, arith, take-append-drop, length-take}
+use Rattle.std.proofs.lemmas.Bool.Decides.{nat_tests}
+use Rattle.std.proofs.lemmas.Bool.{eqb-true, not_from_false}
 use Rattle.std.proofs.lemmas.List.{drop_more, take_all, take_rest, get_or-take}
 use Rattle.std.proofs.lemmas.List.Sums.{list_all-from_AllPass, fails_before_first}
 use Rattle.std.proofs.lemmas.List.Quantifiers.{position-Some}
@@ -26,16 +26,11 @@ module _ (text : List ℕ) where
       let before : k < e = omega (arith, simp length-take at l) in
       let same = get_or-take e text k d before ∙ sym (get_or-take (line_limit + 1) text k d (omega arith)) in
       not_from_false (eqb (get_or (take e text) k d) line_end) (ap (λ (x : ℕ). eqb x line_end) same ∙ (position-Some (λ b. b == line_end) front e d is).2 k before)) in
-      ap lines (sym (take-append-drop e text) ∙ ap (λ (x : List ℕ). take e text ++ x) (drop_more text e 0 within.1 ∙ ap (λ (x : ℕ). x ∷ drop (e + 1) text) byte ∙ ap (λ (x : List ℕ). line_end ∷ x) (sym (take_rest text (e + 1)))))
-      ∙ lines_line (take e text) (take (length text - (e + 1)) (drop (e + 1) text)) (clean, simp length-take (omega arith))
+      grind (arith, take-append-drop e text, drop_more text e 0 within.1, take_rest text (e + 1), byte, lines_line (take e text) (take (length text - (e + 1)) (drop (e + 1) text)) (clean, simp length-take (omega arith)))
 
   no_end : first ≡ None → lacks line_end front ≡ true
   no_end is =
-      let place = position_or_len (λ b. b == line_end) front in
-      list_all-from_AllPass (λ b. not (b == line_end)) front (λ k d l. not_from_false (eqb (get_or front k d) line_end) (fails_before_first (λ b. b == line_end) front k d (⊎_elim
-      (λ h. cc (cond-true (ltb place (length front)) (Some place) None (lt-ltb place (length front) h)))
-      (λ h. omega arith)
-      (cases_lt place (length front)))))
+      list_all-from_AllPass (λ b. not (b == line_end)) front (λ k d l. not_from_false (eqb (get_or front k d) line_end) (fails_before_first (λ b. b == line_end) front k d (grind (arith, nat_tests))))
 
   pub too_long : first ≡ None → line_limit < length text → lines text ≡ long
   too_long is h = ap lines (sym (take-append-drop (line_limit + 1) text)) ∙ lines_long front (drop (line_limit + 1) text) (no_end is) (simp length-take (omega arith))

@@ -1,5 +1,5 @@
 -- One line more of a text.
-use Rattle.std.proofs.Common.{◌≡◌, ℕ, List, Some, Option, suc, sym, ap, ◌∙◌, subst, add-one, Bor}
+use Rattle.std.proofs.Common.{◌≡◌, ℕ, List, Some, Option, suc, subst, add-one, arith, Bor}
 use Rattle.job.specs.declared.cutter.Cutter.{Cutter}
 use Rattle.job.specs.Text.{lines}
 use Rattle.job.specs.Kind.{Kind, kind}
@@ -16,6 +16,4 @@ pub handed : (old new : Cutter) (o : Option (Bor (List ℕ))) (l : Bor (List ℕ
     → onward s old ≡ after r (λ t. onward t new)
 handed old new o l is h s k r same e =
     let g = subst (λ (x : Option (Bor (List ℕ))). Handed old x new) is h in
-    ap (λ (n : ℕ). reading s n (lines old.rest.now)) (sym (add-one old.line) ∙ sym g.1)
-    ∙ ap (reading s new.line) g.0
-    ∙ ap (λ (x : Ruling). after x (λ t. onward t new)) (ap (judged new.line s) (sym same) ∙ e)
+    grind (arith, g.0, g.1, add-one old.line)

@@ -57,6 +57,7 @@ impl From<RecordFault> for JobFault {
 }
 
 impl JobFault {
+    // The number that the refusal's line prints; code matches on the cases.
     pub fn number(self) -> u8
         ensures { result ≡ (report self).number }
     {

@@ -25,6 +25,7 @@ pub(crate) enum Keyword {
 }
 
 impl Keyword {
+    // The keyword that a word is, if it is one.
     fn read(word: &[u8]) -> Option<Keyword>
         ensures { result ≡ keyword word.now }
     {
@@ -47,6 +48,7 @@ pub(crate) enum DutyWord {
 }
 
 impl DutyWord {
+    // The duty that a word names, if it names one.
     fn read(word: &[u8]) -> Option<DutyWord>
         ensures { result ≡ duty_word word.now }
     {
