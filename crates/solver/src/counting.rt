@@ -26,7 +26,8 @@ fn settled(r: u16, flag: u8, n: u16) -> u16
 
 // One round after those done, and whether it gave anything. First every position that is due is flagged by 1, by the counts
 // as they stand, and the others by 0; then what is flagged is given the round's number. So no round reads a count that it
-// has given. The plan buffer holds the flags, since no plan is written yet.
+// has given. The plan buffer holds the flags, since no plan is written yet. The two tables are no struct: one that holds lent
+// buffers has to say in each clause which buffers it ends with, which is longer than their two lengths.
 fn count_round<M: Map, D: Duty>(
     map: &M,
     duty: &D,
