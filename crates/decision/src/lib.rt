@@ -25,6 +25,7 @@ pub enum Declined {
     Call(Refusal),
 }
 
+// Written out and not derived: a clause names the case that `?` makes, and a derived From promises none.
 impl From<JobFault> for Declined {
     ghost from_gives = { λ e r. r ≡ Text e };
 

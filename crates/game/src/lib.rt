@@ -44,6 +44,7 @@ pub enum Refusal {
 }
 
 impl Refusal {
+    // The number that a refusal is told by; code matches on the cases.
     pub fn number(self) -> u8
         ensures { result ≡ refusal_number self }
     {

@@ -40,6 +40,7 @@ pub enum Layer {
     Job,
 }
 
+// Written out and not derived: a clause names the case that `?` makes, and a derived From promises none.
 impl From<CutFault> for RecordFault {
     ghost from_gives = { λ e r. r ≡ Cut e };
 

@@ -53,7 +53,8 @@ impl<'a> Reader<'a> {
         self.finish()
     }
 
-    // What is due after a line that has just been cut, if its kind is due.
+    // What is due after a line that has just been cut, if its kind is due. Phase and kind are matched together, so that one
+    // place says what may follow what.
     fn phase_after(&self, kind: Option<Line<'a>>) -> Result<Phase, JobFault>
         ensures { judged self.now.cutter.line (state_of self.now.phase) (option_map shown_line kind.entry)
             ≡ goes result (λ phase. next (state_of phase)) }
@@ -118,7 +119,8 @@ fn duty_record(line: usize, word: &[u8], bound: Option<&[u8]>) -> Result<Window,
     Window::new(number).map_err(|_| JobFault::OutOfRange { line, field: 3 })
 }
 
-// A queue's field. The limits of its capacity are the queue's own.
+// A queue's field. The limits of its capacity are the queue's own. Two records and no generic one: a duty's line has a word
+// and may leave its bound out.
 fn queue_record(line: usize, capacity: &[u8]) -> Result<Queue, JobFault>
     ensures { (go : ℕ → Ruling) → within line 2 1 capacity_top capacity.now go ≡ goes result (λ q. go q.capacity) }
 {
