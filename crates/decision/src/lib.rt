@@ -18,7 +18,7 @@ use std::fmt;
 const MOST_POSITIONS: usize = 31_872;
 
 // Why no listing is given.
-#[derive(Clone, Copy)]
+#[derive(Clone, Copy, Debug, PartialEq, Eq)]
 pub enum Declined {
     // the text does not say a job
     Text(JobFault),

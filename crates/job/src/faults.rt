@@ -5,7 +5,7 @@ ghost use Rattle.job.specs.declared.faults.JobFault.TheVariants.{Record};
 ghost use Rattle.job.specs.Faults.{report};
 
 // No line can be cut.
-#[derive(Clone, Copy, Debug)]
+#[derive(Clone, Copy, Debug, PartialEq, Eq)]
 pub enum CutFault {
     // the text ends in a piece without an LF
     NoEnd { line: usize },
@@ -14,7 +14,7 @@ pub enum CutFault {
 }
 
 // A field cannot be read. Its line and its place stand in each case, and not in a struct: callers match on the cases.
-#[derive(Clone, Copy, Debug)]
+#[derive(Clone, Copy, Debug, PartialEq, Eq)]
 pub enum RecordFault {
     Cut(CutFault),
     NotNumber { line: usize, field: u8 },
@@ -22,7 +22,7 @@ pub enum RecordFault {
 }
 
 // The lines do not make a job.
-#[derive(Clone, Copy, Debug)]
+#[derive(Clone, Copy, Debug, PartialEq, Eq)]
 pub enum JobFault {
     Record(RecordFault),
     // the keyword is not due, or the number of fields is wrong

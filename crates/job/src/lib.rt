@@ -18,7 +18,7 @@ mod records;
 pub use faults::{CutFault, JobFault, Layer, RecordFault};
 
 // What a job text asks: to keep this duty on this map.
-#[derive(Clone, Copy)]
+#[derive(Clone, Copy, Debug, PartialEq, Eq)]
 pub struct Job {
     pub duty: Window,
     pub map: Queue,
