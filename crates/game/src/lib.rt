@@ -81,6 +81,7 @@ fn leaves_remainder(n: u8) -> bool
 }
 
 // Whether a mark is odd: the one place in the build that tells.
+#[tactic(auto, using(crate::proofs::Parities::tells_odd))]
 pub fn is_odd(mark: u8) -> bool
     ensures test { result ≡ is_odd mark }
     ensures means { TellsOdd mark result }
