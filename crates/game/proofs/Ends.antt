@@ -1,12 +1,13 @@
 -- The rounds come to an end: each round that gives something gives it to a new position, so no round after n × s gives anything,
 -- and the counts are settled once a round gives nothing.
-use Rattle.std.proofs.Common.{◌≡◌, ℕ, zero, suc, ◌+◌, ◌*◌, ◌<◌, ◌≤◌, ◌⊎◌, sym, refl, ◌∙◌, subst, inl, inr, ⊎_elim, arith}
+use Rattle.std.proofs.Common.{◌≡◌, ℕ, zero, suc, ◌+◌, ◌-◌, ◌*◌, ◌<◌, ◌≤◌, ◌⊎◌, length, get_or, min, sym, ◌∙◌, subst, inl, inr, ⊎_elim, arith}
 use Rattle.std.proofs.lemmas.Bool.{cases_lt, cases_Bool}
-use Rattle.game.specs.Graph.{Graph, Fit}
+use native.Mathlib.Decide.{le_ind}
+use Rattle.game.specs.Graph.{Graph, Fit, moves}
 use Rattle.game.specs.Rule.{Rule, Lawful}
-use Rattle.game.specs.Rounds.{positions, or_else, given, Quiet}
+use Rattle.game.specs.Rounds.{positions, given, Quiet}
 use Rattle.game.proofs.Moves.{moves_inside}
-use Rattle.game.proofs.Rounds.{later, small, live_some, live_test, born, house_true, house_false, guest_true, guest_false, given_later, zero_earlier}
+use Rattle.game.proofs.Rounds.{small, live_some, live_test, born, house_true, house_false, guest_true, guest_false, given_later, zero_earlier}
 
 -- a sum over the numbers below n
 total : (ℕ → ℕ) → ℕ → ℕ
@@ -35,76 +36,64 @@ unfolding total
 total_bound f b zero each = omega arith
 total_bound f b (suc n) each = omega (arith, each n, total_bound f b n each)
 
--- 1 where there is a count
-abbrev one_if : ℕ → ℕ
-one_if zero = 0
-one_if (suc n) = 1
-
-one_if_le : (n : ℕ) → one_if n ≤ 1
-one_if_le zero = omega arith
-one_if_le (suc n) = omega arith
-
-one_if_zero : (n : ℕ) → one_if n ≤ 0 → n ≡ 0
-one_if_zero zero h = refl
-one_if_zero (suc n) h = absurd (omega arith)
-
-one_if_or_else : (a b : ℕ) → one_if a ≤ one_if (or_else a b)
-one_if_or_else zero b = omega arith
-one_if_or_else (suc a) b = omega arith
-
 module _ (g : Graph) (d : Rule) where
+  -- 1 where round r has left a count
+  cell : ℕ → ℕ → ℕ → ℕ
+  cell r v c = min 1 (given g d r v c)
+
   row : ℕ → ℕ → ℕ
-  row r v = total (λ c. one_if (given g d r v c)) d.codes
+  row r v = total (cell r v) d.codes
 
   tally : ℕ → ℕ
   tally r = total (row r) g.size
 
-  cell_grows : (r v c : ℕ) → one_if (given g d r v c) ≤ one_if (given g d (suc r) v c)
-  unfolding given
-  cell_grows r v c = one_if_or_else (given g d r v c) _
+  cell_grows : (r v c : ℕ) → cell r v c ≤ cell (suc r) v c
+  unfolding cell
+  cell_grows r v c = grind (arith, given_later g d r (suc r) v c)
 
   row_grows : (r v : ℕ) → row r v ≤ row (suc r) v
   unfolding row
   row_grows r v = total_le _ _ d.codes (λ c l. cell_grows r v c)
 
   tally_bound : (r : ℕ) → tally r ≤ positions g d
-  unfolding tally row
-  tally_bound r =
-      total_bound (row r) d.codes g.size (λ v. omega (arith, total_bound (λ c. one_if (given g d r v c)) 1 d.codes (λ c. one_if_le (given g d r v c))))
+  unfolding tally row cell
+  tally_bound r = total_bound (row r) d.codes g.size (λ v. omega (arith, total_bound (cell r v) 1 d.codes (λ c. omega arith)))
 
   quiet_tally : (r : ℕ) → tally (suc r) ≤ tally r → Quiet g d r
-  unfolding tally row
+  unfolding tally row cell
   quiet_tally r h v c lv lc z =
       let rows : row (suc r) v ≤ row r v = total_same (row r) (row (suc r)) g.size (λ u l. row_grows r u) h v lv in
-      let cell : one_if (given g d (suc r) v c) ≤ one_if (given g d r v c) =
-      total_same (λ b. one_if (given g d r v b)) (λ b. one_if (given g d (suc r) v b)) d.codes (λ b l. cell_grows r v b) rows c lc in
-      one_if_zero _ (subst (λ (x : ℕ). one_if (given g d (suc r) v c) ≤ one_if x) z cell)
+      omega (arith, total_same (cell r v) (cell (suc r) v) d.codes (λ b l. cell_grows r v b) rows c lc)
 
   module _ (fit : Fit g) (lawful : Lawful d) where
     quiet_more : (r : ℕ) → Quiet g d r → Quiet g d (suc r)
-    quiet_more r quiet v c lv lc z = go (given g d (suc (suc r)) v c) refl
+    quiet_more r quiet v c lv lc z = ⊎_elim (λ none. omega (arith, none)) (λ some. absurd (born_late some)) (cases_lt (given g d (suc (suc r)) v c) 1)
       where
-        go : (x : ℕ) → given g d (suc (suc r)) v c ≡ x → given g d (suc (suc r)) v c ≡ 0
-        go zero is = is
-        go (suc k) is =
+        born_late : 0 < given g d (suc (suc r)) v c → ⊥
+        born_late some =
+            let k : ℕ = given g d (suc (suc r)) v c - 1 in
             let bound = small g d (suc (suc r)) v c in
             let step = live_some g d r v c z in
             let e : ℕ = step.0 in
-            let le = (lawful.settled c (g.mark v) e step.1).2 in
+            let ahead : (j : ℕ) → j < length (moves g v) → given g d r (get_or (moves g v) j 0) e ≡ 0 → given g d (suc r) (get_or (moves g v) j 0) e ≡ 0 = λ j lj. quiet _ e (moves_inside g fit v j lv lj) (lawful.settled c (g.mark v) e step.1).2 in
             let before = live_test g d r v c e step.1 z in
-            let after = born g d (suc (suc r)) v c e k step.1 is in
+            let after = born g d (suc (suc r)) v c e k step.1 (omega arith) in
             ⊎_elim
             (λ house.
             let j = house_false g d r v e house before in
-            let still = quiet _ e (moves_inside g fit v j.0 lv j.1) le j.2 in
-            let some = house_true g d k v e house after j.0 j.1 in
-            absurd (omega (arith, given_later g d k (suc r) _ e (omega arith) some)))
+            omega (arith, ahead j.0 j.1 j.2, house_true g d k v e house after j.0 j.1, given_later g d k (suc r) (get_or (moves g v) j.0 0) e))
             (λ guest.
             let j = guest_true g d k v e guest after in
-            let none = guest_false g d r v e guest before j.0 j.1 in
-            let still = quiet _ e (moves_inside g fit v j.0 lv j.1) le none in
-            absurd (omega (arith, j.2, given_later g d k (suc r) _ e (omega arith) j.2)))
+            omega (arith, ahead j.0 j.1 (guest_false g d r v e guest before j.0 j.1), j.2, given_later g d k (suc r) (get_or (moves g v) j.0 0) e))
             (cases_Bool (g.house v))
+
+    quiet_from : (r q : ℕ) → r ≤ q → Quiet g d r → Quiet g d q
+    quiet_from r q h quiet = le_ind (Quiet g d) quiet (λ k l. quiet_more k) q h
+
+    pub same_from : (r q v c : ℕ) → r ≤ q → Quiet g d r → v < g.size → c < d.codes → given g d q v c ≡ given g d r v c
+    same_from r q v c h quiet lv lc =
+        let none : given g d r v c ≡ 0 → given g d q v c ≡ 0 = λ z. le_ind (λ k. given g d k v c ≡ 0) z (λ k l. quiet_from r k l quiet v c lv lc) q h in
+        grind (arith, none, given_later g d r q v c h)
 
     quiet_or_more : (r : ℕ) → Quiet g d r ⊎ (r ≤ tally r)
     quiet_or_more zero = inr (omega arith)
@@ -122,47 +111,18 @@ module _ (g : Graph) (d : Rule) where
         let n : ℕ = positions g d in
         ⊎_elim (λ quiet. quiet) (λ many. quiet_tally n (omega (arith, tally_bound (suc n)))) (quiet_or_more n)
 
-    quiet_after : (r : ℕ) → positions g d ≤ r → Quiet g d r
-    quiet_after zero h = subst (Quiet g d) (omega arith) quiet_end
-    quiet_after (suc r) h =
-        ⊎_elim
-        (λ low. quiet_more r (quiet_after r (omega arith)))
-        (λ top. subst (Quiet g d) (omega arith) quiet_end)
-        (cases_lt (positions g d) (suc r))
-
-    -- no round after n × s gives anything
-    pub stable : (r v c : ℕ) → v < g.size → c < d.codes → given g d (positions g d) v c ≡ 0 → given g d r v c ≡ 0
-    stable zero v c lv lc z = omega (arith, small g d 0 v c)
-    stable (suc r) v c lv lc z =
-        ⊎_elim
-        (λ low. zero_earlier g d (suc r) (positions g d) v c (omega arith) z)
-        (λ top. quiet_after r top v c lv lc (stable r v c lv lc z))
-        (cases_lt r (positions g d))
-
-    quiet_from : (r q : ℕ) → r ≤ q → Quiet g d r → Quiet g d q
-    quiet_from r zero h quiet = subst (Quiet g d) (omega arith) quiet
-    quiet_from r (suc q) h quiet =
-        ⊎_elim (λ low. quiet_more q (quiet_from r q (omega arith) quiet)) (λ top. subst (Quiet g d) (omega arith) quiet) (cases_lt r (suc q))
-
-    zero_from : (r q v c : ℕ) → r ≤ q → Quiet g d r → v < g.size → c < d.codes → given g d r v c ≡ 0 → given g d q v c ≡ 0
-    zero_from r zero v c h quiet lv lc z = omega (arith, small g d 0 v c)
-    zero_from r (suc q) v c h quiet lv lc z =
-        ⊎_elim
-        (λ low. quiet_from r q (omega arith) quiet v c lv lc (zero_from r q v c (omega arith) quiet lv lc z))
-        (λ top. let same : r ≡ suc q = omega arith in subst (λ (x : ℕ). given g d x v c ≡ 0) same z)
-        (cases_lt r (suc q))
-
-    pub same_from : (r q v c : ℕ) → r ≤ q → Quiet g d r → v < g.size → c < d.codes → given g d q v c ≡ given g d r v c
-    same_from r q v c h quiet lv lc = go (given g d r v c) refl
-      where
-        go : (x : ℕ) → given g d r v c ≡ x → given g d q v c ≡ given g d r v c
-        go zero z = zero_from r q v c h quiet lv lc z ∙ sym z
-        go (suc x) s = later g d r q v c x h s ∙ sym s
-
     -- the rounds may end at the first that gives nothing
     pub quiet_rounds : (r v c : ℕ) → Quiet g d r → v < g.size → c < d.codes → given g d r v c ≡ given g d (positions g d) v c
     quiet_rounds r v c quiet lv lc =
         ⊎_elim
         (λ low. sym (same_from r (positions g d) v c (omega arith) quiet lv lc))
         (λ top. same_from (positions g d) r v c top quiet_end lv lc)
+        (cases_lt r (positions g d))
+
+    -- no round after n × s gives anything
+    pub stable : (r v c : ℕ) → v < g.size → c < d.codes → given g d (positions g d) v c ≡ 0 → given g d r v c ≡ 0
+    stable r v c lv lc z =
+        ⊎_elim
+        (λ low. zero_earlier g d r (positions g d) v c (omega arith) z)
+        (λ top. same_from (positions g d) r v c top quiet_end lv lc ∙ z)
         (cases_lt r (positions g d))
