@@ -1,6 +1,7 @@
 -- The rounds come to an end: each round that gives something gives it to a new position, so no round after n × s gives anything,
 -- and the counts are settled once a round gives nothing.
-use Rattle.std.proofs.Common.{◌≡◌, ℕ, zero, suc, ◌+◌, ◌-◌, ◌*◌, ◌<◌, ◌≤◌, ◌⊎◌, length, get_or, min, sym, ◌∙◌, subst, inl, inr, ⊎_elim, arith}
+use Rattle.std.proofs.Common.{◌≡◌, ℕ, zero, suc, ◌+◌, ◌-◌, ◌*◌, ◌/◌, ◌%◌, ◌<◌, ◌≤◌, ◌⊎◌, length, get_or, min, sym, ◌∙◌, subst, inl, inr, ⊎_elim, arith}
+use Rattle.std.proofs.lemmas.Nat.{mul-add-lt, div-mul-add, mod-mul-add}
 use Rattle.std.proofs.lemmas.Bool.{cases_lt, cases_Bool}
 use native.Mathlib.Decide.{le_ind}
 use Rattle.game.specs.Graph.{Graph, Fit, moves}
@@ -31,39 +32,33 @@ total_same f h (suc n) each most i l =
     (λ top. let same : n ≡ i = omega arith in subst (λ (j : ℕ). h j ≤ f j) same (omega arith))
     (cases_lt i n)
 
-total_bound : (f : ℕ → ℕ) (b n : ℕ) → ((i : ℕ) → f i ≤ b) → total f n ≤ n * b
+total_bound : (f : ℕ → ℕ) (n : ℕ) → ((i : ℕ) → f i ≤ 1) → total f n ≤ n
 unfolding total
-total_bound f b zero each = omega arith
-total_bound f b (suc n) each = omega (arith, each n, total_bound f b n each)
+total_bound f zero each = omega arith
+total_bound f (suc n) each = omega (arith, each n, total_bound f n each)
 
 module _ (g : Graph) (d : Rule) where
-  -- 1 where round r has left a count
-  cell : ℕ → ℕ → ℕ → ℕ
-  cell r v c = min 1 (given g d r v c)
-
-  row : ℕ → ℕ → ℕ
-  row r v = total (cell r v) d.codes
+  -- 1 where round r has left a count at the position of number p
+  cell : ℕ → ℕ → ℕ
+  cell r p = min 1 (given g d r (p / d.codes) (p % d.codes))
 
   tally : ℕ → ℕ
-  tally r = total (row r) g.size
+  tally r = total (cell r) (positions g d)
 
-  cell_grows : (r v c : ℕ) → cell r v c ≤ cell (suc r) v c
+  cell_grows : (r p : ℕ) → cell r p ≤ cell (suc r) p
   unfolding cell
-  cell_grows r v c = grind (arith, given_later g d r (suc r) v c)
-
-  row_grows : (r v : ℕ) → row r v ≤ row (suc r) v
-  unfolding row
-  row_grows r v = total_le _ _ d.codes (λ c l. cell_grows r v c)
+  cell_grows r p = grind (arith, given_later g d r (suc r))
 
   tally_bound : (r : ℕ) → tally r ≤ positions g d
-  unfolding tally row cell
-  tally_bound r = total_bound (row r) d.codes g.size (λ v. omega (arith, total_bound (cell r v) 1 d.codes (λ c. omega arith)))
+  unfolding tally cell
+  tally_bound r = total_bound (cell r) (positions g d) (λ p. omega arith)
 
   quiet_tally : (r : ℕ) → tally (suc r) ≤ tally r → Quiet g d r
-  unfolding tally row cell
+  unfolding tally cell
   quiet_tally r h v c lv lc z =
-      let rows : row (suc r) v ≤ row r v = total_same (row r) (row (suc r)) g.size (λ u l. row_grows r u) h v lv in
-      omega (arith, total_same (cell r v) (cell (suc r) v) d.codes (λ b l. cell_grows r v b) rows c lc)
+      let inside = mul-add-lt v d.codes c g.size lv lc in
+      let same = total_same (cell r) (cell (suc r)) (positions g d) (λ p l. cell_grows r p) h (v * d.codes + c) (omega arith) in
+      omega (arith, rw (div-mul-add v d.codes c lc, mod-mul-add v d.codes c lc) at same)
 
   module _ (fit : Fit g) (lawful : Lawful d) where
     quiet_more : (r : ℕ) → Quiet g d r → Quiet g d (suc r)
