@@ -1,6 +1,6 @@
 -- The rounds come to an end: each round that gives something gives it to a new position, so no round after n × s gives anything,
 -- and the counts are settled once a round gives nothing.
-use Rattle.std.proofs.Common.{◌≡◌, ℕ, zero, suc, ◌+◌, ◌-◌, ◌*◌, ◌/◌, ◌%◌, ◌<◌, ◌≤◌, ◌⊎◌, length, get_or, min, sym, ◌∙◌, subst, inl, inr, ⊎_elim, arith}
+use Rattle.std.proofs.Common.{◌≡◌, ℕ, zero, suc, ◌+◌, ◌-◌, ◌*◌, ◌/◌, ◌%◌, ◌<◌, ◌≤◌, ◌⊎◌, length, get_or, min, sym, ◌∙◌, inl, inr, ⊎_elim, arith}
 use Rattle.std.proofs.lemmas.Nat.{mul-add-lt, div-mul-add, mod-mul-add}
 use Rattle.std.proofs.lemmas.Bool.{cases_lt, cases_Bool}
 use native.Mathlib.Decide.{le_ind}
@@ -24,13 +24,9 @@ total_same : (f h : ℕ → ℕ) (n : ℕ) → ((i : ℕ) → i < n → f i ≤ 
 unfolding total
 total_same f h zero each most i l = absurd (omega arith)
 total_same f h (suc n) each most i l =
-    let here = each n (omega arith) in
     let rest = total_le f h n (λ j m. each j (omega arith)) in
-    let back : total h n ≤ total f n = omega arith in
-    ⊎_elim
-    (λ low. total_same f h n (λ j m. each j (omega arith)) back i low)
-    (λ top. let same : n ≡ i = omega arith in subst (λ (j : ℕ). h j ≤ f j) same (omega arith))
-    (cases_lt i n)
+    let below = total_same f h n (λ j m. each j (omega arith)) in
+    grind (arith, each n (omega arith), rest, below)
 
 total_bound : (f : ℕ → ℕ) (n : ℕ) → ((i : ℕ) → f i ≤ 1) → total f n ≤ n
 unfolding total

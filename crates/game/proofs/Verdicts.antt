@@ -15,11 +15,7 @@ use Rattle.game.proofs.Plays.{alive_unbroken, not_both}
 
 -- a round below the count that a position gets in the end gives it nothing
 not_yet : (g : Graph) (d : Rule) (m n v c : ℕ) → m < given g d n v c → given g d m v c ≡ 0
-not_yet g d m n v c h = go (given g d m v c) refl
-  where
-    go : (x : ℕ) → given g d m v c ≡ x → given g d m v c ≡ 0
-    go zero z = z
-    go (suc x) s = absurd (omega (arith, given_later g d m n v c (omega (arith, small g d n v c)) (omega arith), small g d m v c))
+not_yet g d m n v c h = grind (arith, given_later g d m n v c, small g d n v c, small g d m v c)
 
 module _ (g : Graph) (d : Rule) (t : Table) (fit : Fit g) (lawful : Lawful d) (solved : Solved g d t) where
   passes : Passes g d t
