@@ -1,11 +1,12 @@
 -- Equal meanings give equal tables.
-use Rattle.std.proofs.Common.{◌≡◌, ℕ, zero, suc, ◌<◌, ◌≤◌, [], Some, None, Option, sym, refl, ap, ◌∙◌, subst, ⊎_elim, arith}
+use Rattle.std.proofs.Common.{◌≡◌, ℕ, zero, suc, ◌<◌, ◌≤◌, [], None, sym, refl, ap, ◌∙◌, subst, ⊎_elim, arith}
 use Rattle.std.proofs.lemmas.Bool.{cases_lt}
 use Rattle.game.specs.Graph.{Graph, Fit}
 use Rattle.game.specs.Rule.{Rule, Lawful}
 use Rattle.game.specs.Rounds.{positions, or_else, fresh, given}
 use Rattle.game.specs.Table.{entry, Table, Solved, Planned, count_at, plan_at}
 use Rattle.game.specs.Laws.{Alike}
+use Rattle.game.proofs.Rounds.{cases_step}
 use Rattle.game.proofs.Same.{same_count, same_plan}
 
 -- off the map all maps answer the same
@@ -14,11 +15,8 @@ everywhere n m f h off same on out_f out_h v = ⊎_elim (on v) (λ past. out_f v
 
 -- a step that answers nothing outside its codes and marks
 no_step : (d : Rule) → Lawful d → (c m : ℕ) → ((c < d.codes) → (m ≤ 15) → ⊥) → d.step c m ≡ None
-no_step d lawful c m out = go (d.step c m) refl
-  where
-    go : (o : Option ℕ) → d.step c m ≡ o → d.step c m ≡ None
-    go None is = is
-    go (Some e) is = let told = lawful.settled c m e is in absurd (out told.0 told.1)
+no_step d lawful c m out =
+    ⊎_elim (λ none. none) (λ on. let told = lawful.settled c m on.0 on.1 in absurd (out told.0 told.1)) (cases_step (d.step c m))
 
 module _ (g : Graph) (d : Rule) (h : Graph) (e : Rule) (fit_g : Fit g) (lawful_d : Lawful d) (fit_h : Fit h) (lawful_e : Lawful e) (alike : Alike g d h e) where
   same_graph : g ≡ h

@@ -1,5 +1,5 @@
 -- The table that the rounds give passes the check.
-use Rattle.std.proofs.Common.{◌≡◌, ℕ, zero, suc, ◌*◌, ◌<◌, ◌≤◌, length, get_or, None, sym, refl, ◌∙◌, subst, ⊎_elim, arith}
+use Rattle.std.proofs.Common.{◌≡◌, ℕ, suc, ◌-◌, ◌*◌, ◌<◌, ◌≤◌, length, get_or, None, sym, ◌∙◌, ⊎_elim, arith, mul-le-mul}
 use Rattle.std.proofs.lemmas.Bool.{cases_Bool}
 use Rattle.game.specs.Graph.{Graph, Fit, moves}
 use Rattle.game.specs.Rule.{Rule, Lawful}
@@ -14,15 +14,11 @@ module _ (g : Graph) (d : Rule) (t : Table) (fit : Fit g) (lawful : Lawful d) (s
   abbrev end : ℕ
   end = g.size * d.codes
 
-  some_round : (r : ℕ) × (end ≡ suc r)
-  some_round = go end (omega (arith, native.Mathlib.Nat.mul-le-mul fit.some lawful.some))
-    where
-      go : (n : ℕ) → 1 ≤ n → (r : ℕ) × (n ≡ suc r)
-      go zero h = absurd (omega arith)
-      go (suc r) h = (r, refl)
-
   none_count : (v c : ℕ) → d.step c (g.mark v) ≡ None → given g d end v c ≡ 1
-  none_count v c is = subst (λ (n : ℕ). given g d n v c ≡ 1) (sym some_round.1) (none_one g d some_round.0 v c is)
+  none_count v c none =
+      let some : 1 * 1 ≤ end = mul-le-mul fit.some lawful.some in
+      let one = none_one g d 0 v c none in
+      omega (arith, given_later g d 1 end v c)
 
   -- the count of a move is what the rounds gave where it leads
   move_given : (v e k : ℕ) → v < g.size → e < d.codes → k < length (moves g v) → move_count g d t v e k ≡ given g d end (get_or (moves g v) k 0) e
@@ -35,13 +31,6 @@ module _ (g : Graph) (d : Rule) (t : Table) (fit : Fit g) (lawful : Lawful d) (s
       let stays = given_later g d k end (get_or (moves g v) j 0) e (omega arith) some in
       let low = small g d k (get_or (moves g v) j 0) e in
       (omega arith, omega arith)
-
-  above : (v c : ℕ) → v < g.size → c < d.codes → 0 < count_at g d t v c → (k : ℕ) × (count_at g d t v c ≡ suc k) × (given g d end v c ≡ suc k) × (k < end)
-  above v c lv lc some = go (given g d end v c) refl
-    where
-      go : (x : ℕ) → given g d end v c ≡ x → (k : ℕ) × (count_at g d t v c ≡ suc k) × (given g d end v c ≡ suc k) × (k < end)
-      go zero z = absurd (omega (arith, solved.counts v c lv lc))
-      go (suc k) s = (k, solved.counts v c lv lc ∙ s, s, omega (arith, small g d end v c))
 
   pub solved_obeys : (v c : ℕ) → v < g.size → c < d.codes → Obeys g d t v c
   solved_obeys v c lv lc =
@@ -62,20 +51,19 @@ module _ (g : Graph) (d : Rule) (t : Table) (fit : Fit g) (lawful : Lawful d) (s
             (one, ⊎_elim (λ house. plans.waits_house house some) (λ guest. plans.waits_guest guest (omega arith)) (cases_Bool (g.house v)));
         lost_guest = λ e step some guest.
             let le = (lawful.settled c (g.mark v) e step).2 in
-            let k = above v c lv lc some in
-            let j = guest_true g d k.0 v e guest (born g d end v c e k.0 step k.2) in
-            let low = move_below v e k.0 j.0 lv le j.1 k.3 j.2 in
-            let more : 1 < count_at g d t v c = omega (arith, low, k.1) in
-            let told = plans.attacks e step guest more in
-            (told.0, told.1, omega (arith, told.2 j.0 j.1 low.0, low, k.1));
+            let k : ℕ = count_at g d t v c - 1 in
+            let j = guest_true g d k v e guest (born g d end v c e k step (omega arith)) in
+            let low = move_below v e k j.0 lv le j.1 (omega (arith, small g d end v c)) j.2 in
+            let told = plans.attacks e step guest (omega (arith, low)) in
+            (told.0, told.1, omega (arith, told.2 j.0 j.1 low.0, low));
         lost_house = λ e step some house. (
           plans.waits_house house some,
           λ j lj.
               let le = (lawful.settled c (g.mark v) e step).2 in
-              let k = above v c lv lc some in
-              let won = house_true g d k.0 v e house (born g d end v c e k.0 step k.2) j lj in
-              let low = move_below v e k.0 j lv le lj k.3 won in
-              (low.0, omega (arith, low, k.1)),
+              let k : ℕ = count_at g d t v c - 1 in
+              let won = house_true g d k v e house (born g d end v c e k step (omega arith)) j lj in
+              let low = move_below v e k j lv le lj (omega (arith, small g d end v c)) won in
+              (low.0, omega (arith, low)),
         );
       }
 

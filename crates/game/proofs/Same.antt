@@ -1,10 +1,12 @@
 -- Two solved tables agree at every position.
-use Rattle.std.proofs.Common.{◌≡◌, ℕ, ◌<◌, true, false, length, get_or, Some, None, Option, sym, refl, ◌∙◌, ⊎_elim, arith}
-use Rattle.std.proofs.lemmas.Bool.{cases_Bool, cases_lt, cases_order}
+use Rattle.std.proofs.Common.{◌≡◌, ℕ, ◌<◌, true, false, length, get_or, Some, sym, ◌∙◌, ⊎_elim, arith}
+use Rattle.std.proofs.lemmas.Bool.{cases_Bool, cases_lt}
 use Rattle.game.specs.Graph.{Graph, Fit, moves}
 use Rattle.game.specs.Rule.{Rule, Lawful}
+use Rattle.game.specs.Check.{Obeys}
 use Rattle.game.specs.Table.{Table, Solved, LowestZero, LowestLeast, count_at, plan_at, move_count}
 use Rattle.game.proofs.Moves.{moves_inside}
+use Rattle.game.proofs.Rounds.{cases_step}
 use Rattle.game.proofs.Checks.{solved_obeys}
 
 module _ (g : Graph) (d : Rule) (fit : Fit g) (lawful : Lawful d) (t u : Table) (st : Solved g d t) (su : Solved g d u) where
@@ -16,38 +18,25 @@ module _ (g : Graph) (d : Rule) (fit : Fit g) (lawful : Lawful d) (t u : Table) 
 
   zero_once : (v e k j : ℕ) → v < g.size → e < d.codes → LowestZero g d t v e k → LowestZero g d u v e j → k ≡ j
   zero_once v e k j lv le a b =
-      ⊎_elim
-      (λ same. same)
-      (⊎_elim
-      (λ less. absurd (omega (arith, a.1, b.2 k less, same_move v e k lv le a.0)))
-      (λ more. absurd (omega (arith, b.1, a.2 j more, same_move v e j lv le b.0))))
-      (cases_order k j)
+      grind (arith, a.0, a.1, a.2 j, b.0, b.1, b.2 k, same_move v e k lv le a.0, same_move v e j lv le b.0)
 
   least_once : (v e k j : ℕ) → v < g.size → e < d.codes → LowestLeast g d t v e k → LowestLeast g d u v e j → k ≡ j
   least_once v e k j lv le a b =
-      let at_k = same_move v e k lv le a.0 in
-      let at_j = same_move v e j lv le b.0 in
-      let some_k : 0 < move_count g d u v e k = omega (arith, a.1) in
-      let some_j : 0 < move_count g d t v e j = omega (arith, b.1) in
-      ⊎_elim
-      (λ same. same)
-      (⊎_elim
-      (λ less. absurd (omega (arith, b.3 k less some_k, a.2 j b.0 some_j)))
-      (λ more. absurd (omega (arith, a.3 j more some_j, b.2 k a.0 some_k))))
-      (cases_order k j)
+      grind (arith, a.1, a.2 j b.0, a.3 j, b.1, b.2 k a.0, b.3 k, same_move v e k lv le a.0, same_move v e j lv le b.0)
 
   pub same_plan : (v c : ℕ) → v < g.size → c < d.codes → plan_at g d t v c ≡ plan_at g d u v c
   same_plan v c lv lc = ⊎_elim house guest (cases_Bool (g.house v))
     where
+      obeys : Obeys g d t v c
+      obeys = solved_obeys g d t fit lawful st v c lv lc
+
       -- the step at a position whose count is not 1
       stepped : (count_at g d t v c ≡ 1 → ⊥) → (e : ℕ) × (d.step c (g.mark v) ≡ Some e)
-      stepped not_one = go (d.step c (g.mark v)) refl
-        where
-          go : (o : Option ℕ) → d.step c (g.mark v) ≡ o → (e : ℕ) × (d.step c (g.mark v) ≡ Some e)
-          go None is =
-              let obeys = solved_obeys g d t fit lawful st v c lv lc in
-              absurd (⊎_elim (λ low. obeys.safe (omega arith) is) (λ some. not_one (obeys.lost_now some is).0) (cases_lt (count_at g d t v c) 1))
-          go (Some e) is = (e, is)
+      stepped not_one =
+          ⊎_elim
+          (λ none. absurd (⊎_elim (λ low. obeys.safe (omega arith) none) (λ some. not_one (obeys.lost_now some none).0) (cases_lt (count_at g d t v c) 1)))
+          (λ on. on)
+          (cases_step (d.step c (g.mark v)))
 
       house : g.house v ≡ true → plan_at g d t v c ≡ plan_at g d u v c
       house side =
