@@ -1,167 +1,138 @@
--- What a table that passes the check tells of a place.
-use Rattle.std.proofs.Common.{◌≡◌, ℕ, zero, suc, ◌+◌, ◌-◌, ◌<◌, ◌≤◌, Bool, true, false, ◌⊎◌, List, [], ◌∷◌, map, length, get_or, take, Some, sym, refl, ap, ◌∙◌, subst, inl, inr, ⊎_elim, arith}
+-- What a table that passes the check tells of a place: counts along the walks of its plans.
+use Rattle.std.proofs.Common.{◌≡◌, ℕ, ◌+◌, ◌<◌, ◌≤◌, Bool, true, false, cond, ltb, ◌⊎◌, List, [], ◌∷◌, length, Some, ◌∙◌, inl, inr, ⊎_elim, arith}
 use Rattle.std.proofs.lemmas.Bool.{cases_Bool}
+use Rattle.std.proofs.lemmas.Bool.Decides.{nat_tests}
+use Rattle.std.proofs.lemmas.List.{length_push}
 use Rattle.game.specs.Graph.{Graph, Fit, moves}
-use Rattle.game.specs.Rule.{Rule, Lawful, Marks}
-use Rattle.game.specs.Walks.{Walk, Plan, Follows, Broken, HouseKeeps, GuestBreaks, code_before, first, last}
+use Rattle.game.specs.Rule.{Rule, Lawful}
+use Rattle.game.specs.Walks.{Plan, Broken, HouseKeeps, GuestBreaks, code_before, first, last}
 use Rattle.game.specs.Table.{Table, count_at, plan_at, place_count, move_count}
 use Rattle.game.specs.Check.{Obeys, Passes}
 use Rattle.game.specs.Laws.{Told}
 use Rattle.game.proofs.Moves.{moves_some}
-use Rattle.game.proofs.Walks.{limit, limit_same, limit_below, last_take, front_take, seen, seen_next, code_at, Lost, joined_suc, follows_suc, marks_fit, whole, walk_inside, next}
+use Rattle.game.proofs.Walks.{onto, along, push_last, before, before_push, step_at, On, stays_broken, on_one, on_grows, standing}
+
+-- k where it is below n, else 0
+abbrev limit : ℕ → ℕ → ℕ
+limit k n = cond (ltb k n) k 0
+
+limit_same : (k n : ℕ) → k < n → limit k n ≡ k
+limit_same k n h = grind (arith, nat_tests)
+
+limit_below : (k n : ℕ) → 0 < n → limit k n < n
+limit_below k n h = grind (arith, nat_tests)
 
 module _ (g : Graph) (d : Rule) (t : Table) where
-  -- from a count of 0, every guest move and the plan's house move lead to a count of 0
-  pub safe_move : (v c e k : ℕ) → Obeys g d t v c → count_at g d t v c ≡ 0 → d.step c (g.mark v) ≡ Some e → k < length (moves g v) → (g.house v ≡ true → k ≡ plan_at g d t v c) → move_count g d t v e k ≡ 0
-  safe_move v c e k obeys z step l same =
-      ⊎_elim
-      (λ house. ap (move_count g d t v e) (same house) ∙ (obeys.safe_house e step z house).1)
-      (λ guest. (obeys.safe_guest e step z guest).1 k l)
-      (cases_Bool (g.house v))
+  -- the count and the plan byte of the position where a walk stands
+  abbrev pub count_of : List ℕ → ℕ
+  count_of w = count_at g d t (last w) (code_before g d w)
 
-  -- from a count above 0, every house move and the plan's guest move lead to a smaller one above 0
-  pub lost_move : (v c e k : ℕ) → Obeys g d t v c → 0 < count_at g d t v c → d.step c (g.mark v) ≡ Some e → k < length (moves g v) → (g.house v ≡ false → k ≡ plan_at g d t v c) → (0 < move_count g d t v e k) × (move_count g d t v e k < count_at g d t v c)
-  lost_move v c e k obeys some step l same =
-      ⊎_elim
-      (λ house. (obeys.lost_house e step some house).1 k l)
-      (λ guest.
-      let told = obeys.lost_guest e step some guest in
-      subst (λ (j : ℕ). (0 < move_count g d t v e j) × (move_count g d t v e j < count_at g d t v c)) (sym (same guest)) (told.1, told.2))
-      (cases_Bool (g.house v))
+  abbrev pub byte_of : List ℕ → ℕ
+  byte_of w = plan_at g d t (last w) (code_before g d w)
 
-  -- a position with a count above 0 that is not broken has one above 1
-  pub not_last : (v c e : ℕ) → Obeys g d t v c → 0 < count_at g d t v c → d.step c (g.mark v) ≡ Some e → 1 < count_at g d t v c
-  not_last v c e obeys some step =
-      ⊎_elim
-      (λ house. let told = (obeys.lost_house e step some house).1 0 (moves_some g v) in omega arith)
-      (λ guest. let told = obeys.lost_guest e step some guest in omega arith)
-      (cases_Bool (g.house v))
+  -- the counts of a walk of a place with count n: above 0, and small enough to come to 1 by the n-th mark
+  pub record Chased (n : ℕ) (w : List ℕ) : Type 0 where
+    pub some : 0 < count_of w
+    pub few : count_of w + length w ≤ n + 1
 
   -- the plan that a table gives a side
-  abbrev pub table_plan : (side : Bool) → Plan g side
+  abbrev table_plan : (side : Bool) → Plan g side
   table_plan side = record {
-    choose = λ w. limit (plan_at g d t (last w) (code_before g d w)) (length (moves g (last w)));
+    choose = λ w. limit (byte_of w) (length (moves g (last w)));
     fit = λ w walk is. limit_below _ _ (moves_some g (last w));
   }
 
-  pub plan_moves : (side : Bool) (w : List ℕ) → Follows g side (table_plan side) w → (i : ℕ) → suc i < length w → g.house (get_or w i 0) ≡ side → plan_at g d t (get_or w i 0) (code_at g d w i) < length (moves g (get_or w i 0)) → get_or w (suc i) 0 ≡ get_or (moves g (get_or w i 0)) (plan_at g d t (get_or w i 0) (code_at g d w i)) 0
-  plan_moves side w follows i l is named =
-      let h : i < length w = omega arith in
-      let told = follows_suc g d side (table_plan side) w follows i l is in
-      let chosen : limit (plan_at g d t (last (take (suc i) w)) (code_before g d (take (suc i) w))) (length (moves g (last (take (suc i) w)))) ≡ plan_at g d t (get_or w i 0) (code_at g d w i) =
-      ap (λ (v : ℕ). limit (plan_at g d t v (code_before g d (take (suc i) w))) (length (moves g v))) (last_take w i h)
-      ∙ ap (λ (u : List ℕ). limit (plan_at g d t (get_or w i 0) (d.code (map g.mark u))) (length (moves g (get_or w i 0)))) (front_take w i h)
-      ∙ limit_same _ _ named in
-      told ∙ ap (λ (k : ℕ). get_or (moves g (get_or w i 0)) k 0) chosen
-
   module _ (fit : Fit g) (lawful : Lawful d) (passes : Passes g d t) where
-    -- the i-th place of a walk stands at a position that is not broken before it
-    pub record On (w : List ℕ) (i : ℕ) : Type 0 where
-      pub unbroken : Lost g d w i → ⊥
-      pub settled : code_at g d w i < d.codes
+    pub obeys_at : (w : List ℕ) → On g d w → Obeys g d t (last w) (code_before g d w)
+    obeys_at w on = passes _ _ on.inside on.settled
 
-    start_on : (w : List ℕ) → On w 0
-    start_on w = record {
-      unbroken = lawful.empty_unbroken;
-      settled = subst (λ (c : ℕ). c < d.codes) (sym lawful.empty_code) lawful.begins;
-    }
+    count_grows : (w : List ℕ) (e k : ℕ) → On g d w → step_at g d w ≡ Some e → k < length (moves g (last w)) → count_of (onto g w k) ≡ move_count g d t (last w) e k
+    count_grows w e k on step l = rw (push_last w _, (on_grows g d fit lawful w e k on step l).1)
 
-    start_count : (w : List ℕ) (v : ℕ) → first w ≡ v → count_at g d t (get_or w 0 0) (code_at g d w 0) ≡ place_count g d t v
-    start_count w v is = ap (λ (u : ℕ). count_at g d t u (d.code [])) is ∙ ap (count_at g d t v) lawful.empty_code
+    -- from a count of 0, every guest move and the plan's house move lead to a count of 0
+    pub safe_grows : (w : List ℕ) (e k : ℕ) → On g d w → count_of w ≡ 0 → step_at g d w ≡ Some e → k < length (moves g (last w)) → (g.house (last w) ≡ true → k ≡ byte_of w) → count_of (onto g w k) ≡ 0
+    safe_grows w e k on z step l same =
+        let obeys = obeys_at w on in
+        count_grows w e k on step l
+        ∙ ⊎_elim
+        (λ house. rw (same house) (obeys.safe_house e step z house).1)
+        (λ guest. (obeys.safe_guest e step z guest).1 k l)
+        (cases_Bool (g.house (last w)))
 
-    obeys_at : (w : List ℕ) (i : ℕ) → Walk g w → i < length w → On w i → Obeys g d t (get_or w i 0) (code_at g d w i)
-    obeys_at w i walk l on = passes _ _ (walk_inside g d fit w walk i l) on.settled
+    pub safe_end : (w : List ℕ) → On g d w → count_of w ≡ 0 → Broken g d w → ⊥
+    safe_end w on z broken =
+        ⊎_elim (λ none. (obeys_at w on).safe z none.0) (λ live. live.2 broken) (standing g d fit lawful w on)
 
-    abbrev Safe : List ℕ → ℕ → Type 0
-    Safe w i = On w i × (count_at g d t (get_or w i 0) (code_at g d w i) ≡ 0)
+    -- from a count above 0, every house move and the plan's guest move lead to a smaller one above 0
+    pub chased_grows : (n : ℕ) (w : List ℕ) (e k : ℕ) → On g d w → Chased n w → step_at g d w ≡ Some e → k < length (moves g (last w)) → (g.house (last w) ≡ false → k ≡ byte_of w) → Chased n (onto g w k)
+    chased_grows n w e k on chased step l same =
+        let obeys = obeys_at w on in
+        let told : (0 < move_count g d t (last w) e k) × (move_count g d t (last w) e k < count_of w) =
+        ⊎_elim
+        (λ house. (obeys.lost_house e step chased.some house).1 k l)
+        (λ guest. let told = obeys.lost_guest e step chased.some guest in rw (same guest) (told.1, told.2))
+        (cases_Bool (g.house (last w))) in
+        let count = count_grows w e k on step l in
+        let long = length_push w in
+        record { some = omega arith; few = omega arith }
 
-    safe_goes : (w : List ℕ) (i : ℕ) → Walk g w → i < length w → Safe w i → (e : ℕ) × (d.step (code_at g d w i) (g.mark (get_or w i 0)) ≡ Some e) × (Lost g d w (suc i) → ⊥) × (code_at g d w (suc i) ≡ e)
-    safe_goes w i walk l safe =
-        ⊎_elim (λ broken. absurd ((obeys_at w i walk l safe.0).safe safe.1 broken.0)) (λ on. on) (next g d fit lawful w i l safe.0.unbroken)
+    pub chased_end : (n : ℕ) (w : List ℕ) → On g d w → Chased n w → length w ≡ n → Broken g d w
+    chased_end n w on chased long =
+        let obeys = obeys_at w on in
+        ⊎_elim
+        (λ none. none.1)
+        (λ live. absurd (⊎_elim
+        (λ house. let told = (obeys.lost_house live.0 live.1 chased.some house).1 0 (moves_some g (last w)) in omega arith)
+        (λ guest. let told = obeys.lost_guest live.0 live.1 chased.some guest in omega arith)
+        (cases_Bool (g.house (last w)))))
+        (standing g d fit lawful w on)
 
-    safe_next : (w : List ℕ) → Walk g w → Follows g true (table_plan true) w → (i : ℕ) → suc i < length w → Safe w i → Safe w (suc i)
-    safe_next w walk follows i l safe =
-        let h : i < length w = omega arith in
-        let obeys = obeys_at w i walk h safe.0 in
-        let on = safe_goes w i walk h safe in
-        let e : ℕ = on.0 in
-        let k = joined_suc g d w walk i l in
-        let counts : (j : ℕ) → (get_or (moves g (get_or w i 0)) j 0 ≡ get_or w (suc i) 0) → move_count g d t (get_or w i 0) e j ≡ 0 → count_at g d t (get_or w (suc i) 0) (code_at g d w (suc i)) ≡ 0 =
-        λ j leads z. ap (count_at g d t (get_or w (suc i) 0)) on.3 ∙ ap (λ (v : ℕ). count_at g d t v e) (sym leads) ∙ z in (
-          record { unbroken = on.2; settled = subst (λ (c : ℕ). c < d.codes) (sym on.3) (lawful.settled _ _ e on.1).2 },
-          ⊎_elim
-              (λ house.
-              let told = obeys.safe_house e on.1 safe.1 house in
-              counts _ (sym (plan_moves true w follows i l house told.0)) told.1)
-              (λ guest. counts k.0 k.1.1 ((obeys.safe_guest e on.1 safe.1 guest).1 k.0 k.1.0))
-              (cases_Bool (g.house (get_or w i 0))),
-        )
+    start_count : (w : List ℕ) (v : ℕ) → first w ≡ v → count_of (first w ∷ []) ≡ place_count g d t v
+    start_count w v from = rw (from, lawful.empty_code)
 
-    safe_all : (w : List ℕ) → Walk g w → Follows g true (table_plan true) w → place_count g d t (first w) ≡ 0 → (i : ℕ) → i < length w → Safe w i
-    safe_all w walk follows z zero l = (start_on w, start_count w (first w) refl ∙ z)
-    safe_all w walk follows z (suc i) l = safe_next w walk follows i l (safe_all w walk follows z i (omega arith))
+    abbrev Safe : List ℕ → Type 0
+    Safe w = On g d w × (count_of w ≡ 0)
 
     pub keeps : (v : ℕ) → place_count g d t v ≡ 0 → HouseKeeps g d v
-    keeps v z = (table_plan true, λ w walk from follows broken. none w walk from follows broken (length w - 1) (omega (arith, walk.some)))
-      where
-        none : (w : List ℕ) → Walk g w → first w ≡ v → Follows g true (table_plan true) w → Broken g d w → (i : ℕ) → length w ≡ suc i → ⊥
-        none w walk from follows broken i long =
-            (safe_goes w i walk (omega arith) (safe_all w walk follows (ap (place_count g d t) from ∙ z) i (omega arith))).2
-            (subst d.Breaks (sym (whole g d w (suc i) long)) broken)
+    keeps v z = (
+      table_plan true,
+      λ w walk from follows broken.
+          let safe = along g true (table_plan true) Safe w walk follows (on_one g d fit lawful (first w) walk.inside, start_count w v from ∙ z) (λ u k walked safe l same.
+          ⊎_elim
+          (λ none. absurd (safe_end u safe.0 safe.1 none.1))
+          (λ live. (
+            (on_grows g d fit lawful u live.0 k safe.0 live.1 l).0,
+            safe_grows u live.0 k safe.0 safe.1 live.1 l (λ house. same house ∙ limit_same _ _ ((obeys_at u safe.0).safe_house live.0 live.1 safe.1 house).0),
+          ))
+          (standing g d fit lawful u safe.0)) in
+          safe_end w safe.0 safe.1 broken,
+    )
 
-    abbrev Hunted : ℕ → List ℕ → ℕ → Type 0
-    Hunted n w i = Lost g d w i ⊎ (On w i × (0 < count_at g d t (get_or w i 0) (code_at g d w i)) × (count_at g d t (get_or w i 0) (code_at g d w i) + i ≤ n))
-
-    lost_longer : (w : List ℕ) (i : ℕ) → i < length w → Lost g d w i → Lost g d w (suc i)
-    lost_longer w i l lost =
-        let more = seen_next g d w i l in
-        subst d.Breaks (sym more) (lawful.longer (seen g d w i) (g.mark (get_or w i 0) ∷ []) (subst Marks more (marks_fit g d fit (take (suc i) w))) lost)
-
-    hunted_next : (n : ℕ) (w : List ℕ) → Walk g w → Follows g false (table_plan false) w → (i : ℕ) → suc i < length w → Hunted n w i → Hunted n w (suc i)
-    hunted_next n w walk follows i l (inl lost) = inl (lost_longer w i (omega arith) lost)
-    hunted_next n w walk follows i l (inr here) =
-        let h : i < length w = omega arith in
-        let obeys = obeys_at w i walk h here.0 in
-        let k = joined_suc g d w walk i l in
-        ⊎_elim
-        (λ broken. inl broken.1)
-        (λ on.
-        let e : ℕ = on.0 in
-        let counts : (j : ℕ) → (get_or (moves g (get_or w i 0)) j 0 ≡ get_or w (suc i) 0) → count_at g d t (get_or w (suc i) 0) (code_at g d w (suc i)) ≡ move_count g d t (get_or w i 0) e j =
-        λ j leads. ap (count_at g d t (get_or w (suc i) 0)) on.3 ∙ ap (λ (v : ℕ). count_at g d t v e) (sym leads) in
-        let stands : On w (suc i) = record { unbroken = on.2; settled = subst (λ (c : ℕ). c < d.codes) (sym on.3) (lawful.settled _ _ e on.1).2 } in
-        ⊎_elim
-        (λ house.
-        let told = (obeys.lost_house e on.1 here.1 house).1 k.0 k.1.0 in
-        let same = counts k.0 k.1.1 in
-        inr (stands, omega arith, omega arith))
-        (λ guest.
-        let told = obeys.lost_guest e on.1 here.1 guest in
-        let same = counts _ (sym (plan_moves false w follows i l guest told.0)) in
-        inr (stands, omega arith, omega arith))
-        (cases_Bool (g.house (get_or w i 0))))
-        (next g d fit lawful w i h here.0.unbroken)
-
-    hunted_all : (w : List ℕ) → Walk g w → Follows g false (table_plan false) w → 0 < place_count g d t (first w) → (i : ℕ) → i < length w → Hunted (place_count g d t (first w)) w i
-    hunted_all w walk follows some zero l = let same = start_count w (first w) refl in inr (start_on w, omega arith, omega arith)
-    hunted_all w walk follows some (suc i) l = hunted_next _ w walk follows i l (hunted_all w walk follows some i (omega arith))
-
-    hunted_end : (n : ℕ) (w : List ℕ) → Walk g w → (i : ℕ) → i < length w → n ≡ suc i → Hunted n w i → Lost g d w (suc i)
-    hunted_end n w walk i l long (inl lost) = lost_longer w i l lost
-    hunted_end n w walk i l long (inr here) =
-        ⊎_elim
-        (λ broken. broken.1)
-        (λ on. absurd (omega (arith, not_last _ _ on.0 (obeys_at w i walk l here.0) here.1 on.1)))
-        (next g d fit lawful w i l here.0.unbroken)
+    -- broken before the last place, or still chased
+    abbrev Hunted : ℕ → List ℕ → Type 0
+    Hunted n w = d.Breaks (before g d w) ⊎ (On g d w × Chased n w)
 
     pub breaks_in : (v n : ℕ) → 0 < n → place_count g d t v ≡ n → GuestBreaks g d v n
-    breaks_in v n some is = (table_plan false, λ w walk from follows long. lost w walk from follows long (n - 1) (omega arith))
-      where
-        lost : (w : List ℕ) → Walk g w → first w ≡ v → Follows g false (table_plan false) w → length w ≡ n → (i : ℕ) → n ≡ suc i → Broken g d w
-        lost w walk from follows long i last_one =
-            let same : place_count g d t (first w) ≡ n = ap (place_count g d t) from ∙ is in
-            subst d.Breaks (whole g d w (suc i) (omega arith))
-            (hunted_end _ w walk i (omega arith) (omega arith) (hunted_all w walk follows (omega arith) i (omega arith)))
+    breaks_in v n some is = (
+      table_plan false,
+      λ w walk from follows long.
+          let count = start_count w v from in
+          ⊎_elim
+          (stays_broken g d fit lawful w walk.some)
+          (λ here. chased_end n w here.0 here.1 long)
+          (along g false (table_plan false) (Hunted n) w walk follows (inr (on_one g d fit lawful (first w) walk.inside, record { some = omega arith; few = omega arith })) (λ u k walked hunted l same.
+          let broke : Broken g d u → Hunted n (onto g u k) = λ broken. inl (rw (before_push g d u _) broken) in
+          ⊎_elim
+          (λ lost. broke (stays_broken g d fit lawful u walked.some lost))
+          (λ here. ⊎_elim
+          (λ none. broke none.1)
+          (λ live. inr (
+            (on_grows g d fit lawful u live.0 k here.0 live.1 l).0,
+            chased_grows n u live.0 k here.0 here.1 live.1 l (λ guest. same guest ∙ limit_same _ _ ((obeys_at u here.0).lost_guest live.0 live.1 here.1.some guest).0),
+          ))
+          (standing g d fit lawful u here.0))
+          hunted)),
+    )
 
     -- what a passed table tells of a place
     pub checked_verdict : (v : ℕ) → v < g.size → Told g d t v
