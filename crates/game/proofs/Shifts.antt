@@ -134,47 +134,44 @@ module _ (g : Graph) (d : Rule) (t : Table) (begin : ℕ) where
 
       step_drive : Left drive (driven g d t s)
       step_drive =
-          ⊎_elim
-          (λ broken.
-          let is : driven g d t s ≡ (refused 32, s) = rw (sizes_fit, broken.0) in
-          rw is (w, ((λ b. (refl, refl), λ un. absurd (un broken.1), λ un. absurd (un broken.1)), held)))
-          (λ live.
-          ⊎_elim
-          (λ mine.
-          let k : ℕ = byte_of g d t w in
-          let named = byte_named live.0 live.1 mine.1 in
-          let is : driven g d t s ≡ moved g d s 35 k = rw (sizes_fit, live.2, mine.0, held.place, held.code, lt-ltb _ _ named) in
-          let went = held_moves 35 k live.0 live.1 named (λ on. refl) in
-          rw is (onto g w k, ((λ b. absurd (live.3 b), λ un off. absurd (off mine.1), λ un on. (named, (went.0, refl))), went.1)))
-          (λ theirs.
-          let is : driven g d t s ≡ (refused 33, s) = rw (sizes_fit, live.2, theirs.0) in
-          rw is (w, ((λ b. absurd (live.3 b), λ un off. (refl, refl), λ un on. absurd (theirs.1 on)), held)))
-          turn)
-          told
+          elim told [
+            | inl broken ↦
+                let is : driven g d t s ≡ (refused 32, s) = rw (sizes_fit, broken.0) in
+                rw is (w, (grind arith, held))
+            | inr live ↦ elim turn [
+              | inl mine ↦
+                  let k : ℕ = byte_of g d t w in
+                  let named = byte_named live.0 live.1 mine.1 in
+                  let is : driven g d t s ≡ moved g d s 35 k = rw (sizes_fit, live.2, mine.0, held.place, held.code, lt-ltb _ _ named) in
+                  let went = held_moves 35 k live.0 live.1 named (λ on. refl) in
+                  rw is (onto g w k, (grind (arith, live.3, mine.1, went.0, named), went.1))
+              | inr theirs ↦
+                  let is : driven g d t s ≡ (refused 33, s) = rw (sizes_fit, live.2, theirs.0) in
+                  rw is (w, (grind arith, held))
+            ]
+          ]
 
       step_report : (k : ℕ) → Left (report k) (reported g d t s k)
       step_report k =
-          ⊎_elim
-          (λ broken.
-          let is : reported g d t s k ≡ (refused 32, s) = rw (sizes_fit, broken.0) in
-          rw is (w, ((λ b. (refl, refl), λ un. absurd (un broken.1), λ un. absurd (un broken.1), λ un. absurd (un broken.1)), held)))
-          (λ live.
-          ⊎_elim
-          (λ mine.
-          let is : reported g d t s k ≡ (refused 33, s) = rw (sizes_fit, live.2, mine.0) in
-          rw is (w, ((λ b. absurd (live.3 b), λ un on. (refl, refl), λ un off. absurd (off mine.1), λ un off. absurd (off mine.1)), held)))
-          (λ theirs.
-          ⊎_elim
-          (λ named.
-          let is : reported g d t s k ≡ moved g d s 34 k = rw (sizes_fit, live.2, theirs.0, held.place, lt-ltb _ _ named) in
-          let went = held_moves 34 k live.0 live.1 named (λ on. absurd (theirs.1 on)) in
-          rw is (onto g w k, ((λ b. absurd (live.3 b), λ un on. absurd (theirs.1 on), λ un off past. absurd (omega arith), λ un off l. (went.0, refl)), went.1)))
-          (λ past.
-          let is : reported g d t s k ≡ (refused 34, s) = rw (sizes_fit, live.2, theirs.0, held.place, le-ltb _ _ past) in
-          rw is (w, ((λ b. absurd (live.3 b), λ un on. absurd (theirs.1 on), λ un off p. (refl, refl), λ un off l. absurd (omega arith)), held)))
-          (cases_lt k (length (moves g (last w)))))
-          turn)
-          told
+          elim told [
+            | inl broken ↦
+                let is : reported g d t s k ≡ (refused 32, s) = rw (sizes_fit, broken.0) in
+                rw is (w, (grind arith, held))
+            | inr live ↦ elim turn [
+              | inl mine ↦
+                  let is : reported g d t s k ≡ (refused 33, s) = rw (sizes_fit, live.2, mine.0) in
+                  rw is (w, (grind arith, held))
+              | inr theirs ↦ elim (cases_lt k (length (moves g (last w)))) [
+                | inl named ↦
+                    let is : reported g d t s k ≡ moved g d s 34 k = rw (sizes_fit, live.2, theirs.0, held.place, lt-ltb _ _ named) in
+                    let went = held_moves 34 k live.0 live.1 named (λ on. absurd (theirs.1 on)) in
+                    rw is (onto g w k, (grind (arith, live.3, theirs.1, went.0), went.1))
+                | inr past ↦
+                    let is : reported g d t s k ≡ (refused 34, s) = rw (sizes_fit, live.2, theirs.0, held.place, le-ltb _ _ past) in
+                    rw is (w, (grind arith, held))
+              ]
+            ]
+          ]
 
       step_look : Left look (looked g d t s)
       step_look = (
