@@ -1,7 +1,7 @@
 -- A shift answers every list of calls as its walk has it.
 use Rattle.std.proofs.Common.{◌≡◌, ℕ, ◌<◌, true, false, ◌⊎◌, List, [], ◌∷◌, length, get_or, Some, sym, refl, ap, ◌∙◌, inl, inr, ⊎_elim, arith}
 use Rattle.std.proofs.lemmas.List.{get_or_append_left}
-use Rattle.std.proofs.lemmas.Bool.{cases_lt, both_ways, eq-eqb, ne_eqb, lt-ltb, le-ltb, le-leb, and_from}
+use Rattle.std.proofs.lemmas.Bool.{cases_lt, eq-eqb, ne_eqb, lt-ltb, le-ltb, le-leb, and_from}
 use Rattle.game.specs.Graph.{Graph, Fit, moves}
 use Rattle.game.specs.Rule.{Rule, Lawful}
 use Rattle.game.specs.Walks.{Walk, Broken, code_before, first, last}
@@ -144,7 +144,7 @@ module _ (g : Graph) (d : Rule) (t : Table) (begin : ℕ) where
                   let named = byte_named live.0 live.1 mine.1 in
                   let is : driven g d t s ≡ moved g d s 35 k = rw (sizes_fit, live.2, mine.0, held.place, held.code, lt-ltb _ _ named) in
                   let went = held_moves 35 k live.0 live.1 named (λ on. refl) in
-                  rw is (onto g w k, (grind (arith, live.3, mine.1, went.0, named), went.1))
+                  rw is (onto g w k, (grind arith, went.1))
               | inr theirs ↦
                   let is : driven g d t s ≡ (refused 33, s) = rw (sizes_fit, live.2, theirs.0) in
                   rw is (w, (grind arith, held))
@@ -165,7 +165,7 @@ module _ (g : Graph) (d : Rule) (t : Table) (begin : ℕ) where
                 | inl named ↦
                     let is : reported g d t s k ≡ moved g d s 34 k = rw (sizes_fit, live.2, theirs.0, held.place, lt-ltb _ _ named) in
                     let went = held_moves 34 k live.0 live.1 named (λ on. absurd (theirs.1 on)) in
-                    rw is (onto g w k, (grind (arith, live.3, theirs.1, went.0), went.1))
+                    rw is (onto g w k, (grind arith, went.1))
                 | inr past ↦
                     let is : reported g d t s k ≡ (refused 34, s) = rw (sizes_fit, live.2, theirs.0, held.place, le-ltb _ _ past) in
                     rw is (w, (grind arith, held))
@@ -174,21 +174,7 @@ module _ (g : Graph) (d : Rule) (t : Table) (begin : ℕ) where
           ]
 
       step_look : Left look (looked g d t s)
-      step_look = (
-        w,
-        (
-          (
-            refl,
-            (
-              s.ended,
-              rw (held.place, held.code),
-              (λ is. ⊎_elim (λ broken. broken.1) (λ live. absurd (both_ways _ live.2 is)) told),
-              (λ b. ⊎_elim (λ broken. broken.0) (λ live. absurd (live.3 b)) told),
-            ),
-          ),
-          held,
-        ),
-      )
+      step_look = (w, ((refl, (s.ended, rw (held.place, held.code), grind (arith, told), grind (arith, told))), held))
 
       step_restart : begin < g.size → Left restart (restarted g d t s)
       step_restart l =
