@@ -1,6 +1,5 @@
 -- Equal meanings give equal tables.
-use Rattle.std.proofs.Common.{◌≡◌, ℕ, zero, suc, ◌<◌, ◌≤◌, [], None, sym, refl, ap, ◌∙◌, subst, ⊎_elim, arith}
-use Rattle.std.proofs.lemmas.Bool.{cases_lt}
+use Rattle.std.proofs.Common.{◌≡◌, ℕ, zero, suc, ◌<◌, ◌≤◌, [], None, ◌⊎◌, sym, refl, ap, ◌∙◌, subst, inl, inr, ⊎_elim, arith}
 use Rattle.game.specs.Graph.{Graph, Fit}
 use Rattle.game.specs.Rule.{Rule, Lawful}
 use Rattle.game.specs.Rounds.{positions, or_else, fresh, given}
@@ -11,12 +10,12 @@ use Rattle.game.proofs.Same.{same_count, same_plan}
 
 -- off the map all maps answer the same
 everywhere : {A : Type 0} (n m : ℕ) (f h : ℕ → A) (off : A) → n ≡ m → ((v : ℕ) → v < n → f v ≡ h v) → ((v : ℕ) → n ≤ v → f v ≡ off) → ((v : ℕ) → m ≤ v → h v ≡ off) → (v : ℕ) → f v ≡ h v
-everywhere n m f h off same on out_f out_h v = ⊎_elim (on v) (λ past. out_f v past ∙ sym (out_h v (omega arith))) (cases_lt v n)
+everywhere n m f h off same on out_f out_h v = grind (arith, on v, out_f v, out_h v)
 
--- a step that answers nothing outside its codes and marks
-no_step : (d : Rule) → Lawful d → (c m : ℕ) → ((c < d.codes) → (m ≤ 15) → ⊥) → d.step c m ≡ None
-no_step d lawful c m out =
-    ⊎_elim (λ none. none) (λ on. let told = lawful.settled c m on.0 on.1 in absurd (out told.0 told.1)) (cases_step (d.step c m))
+-- a step answers only on its codes and marks
+step_reach : (d : Rule) → Lawful d → (c m : ℕ) → (d.step c m ≡ None) ⊎ ((c < d.codes) × (m ≤ 15))
+step_reach d lawful c m =
+    ⊎_elim inl (λ some. let told = lawful.settled c m some.0 some.1 in inr (told.0, told.1)) (cases_step (d.step c m))
 
 module _ (g : Graph) (d : Rule) (h : Graph) (e : Rule) (fit_g : Fit g) (lawful_d : Lawful d) (fit_h : Fit h) (lawful_e : Lawful e) (alike : Alike g d h e) where
   same_graph : g ≡ h
@@ -28,14 +27,7 @@ module _ (g : Graph) (d : Rule) (h : Graph) (e : Rule) (fit_g : Fit g) (lawful_d
   }
 
   same_step : (c m : ℕ) → d.step c m ≡ e.step c m
-  same_step c m =
-      ⊎_elim
-      (λ coded. ⊎_elim
-      (λ marked. alike.step c m coded (omega arith))
-      (λ high. no_step d lawful_d c m (λ l k. omega arith) ∙ sym (no_step e lawful_e c m (λ l k. omega arith)))
-      (cases_lt m 16))
-      (λ past. no_step d lawful_d c m (λ l k. omega arith) ∙ sym (no_step e lawful_e c m (λ l k. omega (arith, alike.codes))))
-      (cases_lt c d.codes)
+  same_step c m = grind (arith, alike.step c m, alike.codes, step_reach d lawful_d c m, step_reach e lawful_e c m)
 
   same_given : (r v c : ℕ) → given g d r v c ≡ given h e r v c
   unfolding given

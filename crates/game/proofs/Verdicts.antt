@@ -1,14 +1,13 @@
 -- The table that the rounds give tells who can keep or break the duty from each place.
-use Rattle.std.proofs.Common.{◌≡◌, ℕ, zero, suc, ◌*◌, ◌<◌, sym, refl, ◌∙◌, ⊎_elim, arith}
+use Rattle.std.proofs.Common.{◌≡◌, ℕ, ◌*◌, ◌<◌, refl, ⊎_elim, arith}
 use Rattle.std.proofs.lemmas.Bool.{cases_lt, cases_order}
 use Rattle.game.specs.Graph.{Graph, Fit}
 use Rattle.game.specs.Rule.{Rule, Lawful}
-use Rattle.game.specs.Walks.{GuestBreaks, GuestLeast}
+use Rattle.game.specs.Walks.{GuestBreaks}
 use Rattle.game.specs.Rounds.{given, rounds}
 use Rattle.game.specs.Table.{Table, place_count, Solved, Verdict}
 use Rattle.game.specs.Check.{Passes}
 use Rattle.game.proofs.Rounds.{small, given_later}
-use Rattle.game.proofs.Ends.{stable}
 use Rattle.game.proofs.Checks.{solved_passes}
 use Rattle.game.proofs.Keeps.{keeps, breaks_in}
 use Rattle.game.proofs.Plays.{alive_unbroken, not_both}
@@ -35,16 +34,14 @@ module _ (g : Graph) (d : Rule) (t : Table) (fit : Fit g) (lawful : Lawful d) (s
           (λ some. absurd (not_both g d fit lawful v (place_count g d t v) l some house (breaks_in g d t fit lawful passes v (place_count g d t v) some refl)))
           (cases_lt (place_count g d t v) 1);
       house_only = keeps g d t fit lawful passes v;
-      guest_if = λ n first. go n first (place_count g d t v) refl;
+      guest_if = λ n first. ⊎_elim
+          (λ same. same)
+          (⊎_elim
+          (λ late. absurd (⊎_elim
+          (λ none. not_both g d fit lawful v n l first.above (keeps g d t fit lawful passes v (omega arith)) first.breaks)
+          (λ some. first.least _ some late (breaks_in g d t fit lawful passes v _ some refl))
+          (cases_lt (place_count g d t v) 1)))
+          (λ early. absurd (least _ refl n first.above early first.breaks)))
+          (cases_order (place_count g d t v) n);
       guest_only = λ n some count. record { above = some; breaks = breaks_in g d t fit lawful passes v n some count; least = least n count };
     }
-      where
-        go : (n : ℕ) → GuestLeast g d v n → (x : ℕ) → place_count g d t v ≡ x → place_count g d t v ≡ n
-        go n first zero z = absurd (alive_unbroken g d fit lawful v n l first.above (stable g d fit lawful n v d.start l lawful.begins (sym is ∙ z)) first.breaks)
-        go n first (suc x) s =
-            ⊎_elim
-            (λ same. s ∙ sym same)
-            (⊎_elim
-            (λ early. absurd (least (suc x) s n first.above early first.breaks))
-            (λ late. absurd (first.least (suc x) (omega arith) late (breaks_in g d t fit lawful passes v (suc x) (omega arith) s))))
-            (cases_order n (suc x))

@@ -1,9 +1,7 @@
 -- Walks as they grow by a move, induction along a plan's walks, and the position where a walk stands.
 use Rattle.std.proofs.Common.{◌≡◌, ℕ, zero, suc, ◌+◌, ◌-◌, ◌<◌, Bool, true, false, ◌⊎◌, List, [], ◌∷◌, ◌++◌, map, length, get_or, take, Some, None, Option, sym, refl, ap, ◌∙◌, subst, inl, inr, ⊎_elim, le_of_suc-le-suc, add-one, arith, length-take-le, take_all, take_at, get_or-take, take-suc}
 use Rattle.std.proofs.lemmas.List.{length_push, get_or_push, get_or_append_left, map_push, take-append-le}
-use Rattle.std.proofs.lemmas.Bool.{cases_Bool, cases_lt}
-use Rattle.std.proofs.lemmas.Bool.Decides.{not_from_Decides}
-use Rattle.std.specs.Cmp.{booleans_Decides}
+use Rattle.std.proofs.lemmas.Bool.{cases_lt}
 use Rattle.std.specs.Bool.{beq}
 use Rattle.game.specs.Graph.{Graph, Fit, moves}
 use Rattle.game.specs.Rule.{Rule, Lawful, Marks}
@@ -12,9 +10,7 @@ use Rattle.game.proofs.Moves.{moves_inside}
 use Rattle.game.proofs.Rounds.{cases_step}
 
 pub cases_beq : (a b : Bool) → ((beq a b ≡ true) × (a ≡ b)) ⊎ ((beq a b ≡ false) × (a ≡ b → ⊥))
-cases_beq a b =
-    let told = booleans_Decides a b in
-    ⊎_elim (λ same. inl (same, told.0 same)) (λ differ. inr (differ, not_from_Decides _ told differ)) (cases_Bool (beq a b))
+cases_beq a b = grind arith
 
 pub push_last : (w : List ℕ) (x : ℕ) → last (w ++ x ∷ []) ≡ x
 push_last w x = get_or_push w x 0 (length (w ++ x ∷ []) - 1) (omega (arith, length_push w x))
