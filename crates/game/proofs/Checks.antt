@@ -14,7 +14,7 @@ module _ (g : Graph) (d : Rule) (t : Table) (fit : Fit g) (lawful : Lawful d) (s
   abbrev end : ℕ
   end = g.size * d.codes
 
-  none_count : (v c : ℕ) → d.step c (g.mark v) ≡ None → given g d end v c ≡ 1
+  pub none_count : (v c : ℕ) → d.step c (g.mark v) ≡ None → given g d end v c ≡ 1
   none_count v c none =
       let some : 1 * 1 ≤ end = mul-le-mul fit.some lawful.some in
       let one = none_one g d 0 v c none in

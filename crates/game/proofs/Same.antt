@@ -1,5 +1,5 @@
 -- Two solved tables agree at every position.
-use Rattle.std.proofs.Common.{◌≡◌, ℕ, ◌<◌, true, false, length, get_or, Some, sym, ◌∙◌, ⊎_elim, arith}
+use Rattle.std.proofs.Common.{◌≡◌, ℕ, ◌<◌, true, false, length, get_or, Some, None, sym, ◌∙◌, ⊎_elim, arith}
 use Rattle.std.proofs.lemmas.Bool.{cases_Bool, cases_lt}
 use Rattle.game.specs.Graph.{Graph, Fit, moves}
 use Rattle.game.specs.Rule.{Rule, Lawful}
@@ -7,7 +7,7 @@ use Rattle.game.specs.Check.{Obeys}
 use Rattle.game.specs.Table.{Table, Solved, LowestZero, LowestLeast, count_at, plan_at, move_count}
 use Rattle.game.proofs.Moves.{moves_inside}
 use Rattle.game.proofs.Rounds.{cases_step}
-use Rattle.game.proofs.Checks.{solved_obeys}
+use Rattle.game.proofs.Checks.{none_count}
 
 module _ (g : Graph) (d : Rule) (fit : Fit g) (lawful : Lawful d) (t u : Table) (st : Solved g d t) (su : Solved g d u) where
   pub same_count : (v c : ℕ) → v < g.size → c < d.codes → count_at g d t v c ≡ count_at g d u v c
@@ -25,36 +25,29 @@ module _ (g : Graph) (d : Rule) (fit : Fit g) (lawful : Lawful d) (t u : Table) 
       grind (arith, a.1, a.2 j b.0, a.3 j, b.1, b.2 k a.0, b.3 k, same_move v e k lv le a.0, same_move v e j lv le b.0)
 
   pub same_plan : (v c : ℕ) → v < g.size → c < d.codes → plan_at g d t v c ≡ plan_at g d u v c
-  same_plan v c lv lc = ⊎_elim house guest (cases_Bool (g.house v))
-    where
-      obeys : Obeys g d t v c
-      obeys = solved_obeys g d t fit lawful st v c lv lc
-
-      -- the step at a position whose count is not 1
-      stepped : (count_at g d t v c ≡ 1 → ⊥) → (e : ℕ) × (d.step c (g.mark v) ≡ Some e)
-      stepped not_one =
-          ⊎_elim
-          (λ none. absurd (⊎_elim (λ low. obeys.safe (omega arith) none) (λ some. not_one (obeys.lost_now some none).0) (cases_lt (count_at g d t v c) 1)))
-          (λ on. on)
-          (cases_step (d.step c (g.mark v)))
-
-      house : g.house v ≡ true → plan_at g d t v c ≡ plan_at g d u v c
-      house side =
-          let same = same_count v c lv lc in
-          ⊎_elim
-          (λ low.
-          let z : count_at g d t v c ≡ 0 = omega arith in
-          let s = stepped (λ one. omega arith) in
-          zero_once v s.0 _ _ lv (lawful.settled c (g.mark v) s.0 s.1).2 ((st.plans v c lv lc).holds s.0 s.1 side z) ((su.plans v c lv lc).holds s.0 s.1 side (sym same ∙ z)))
-          (λ some. (st.plans v c lv lc).waits_house side some ∙ sym ((su.plans v c lv lc).waits_house side (omega arith)))
-          (cases_lt (count_at g d t v c) 1)
-
-      guest : g.house v ≡ false → plan_at g d t v c ≡ plan_at g d u v c
-      guest side =
-          let same = same_count v c lv lc in
-          ⊎_elim
-          (λ low. (st.plans v c lv lc).waits_guest side (omega arith) ∙ sym ((su.plans v c lv lc).waits_guest side (omega arith)))
-          (λ more.
-          let s = stepped (λ one. omega arith) in
-          least_once v s.0 _ _ lv (lawful.settled c (g.mark v) s.0 s.1).2 ((st.plans v c lv lc).attacks s.0 s.1 side more) ((su.plans v c lv lc).attacks s.0 s.1 side (omega arith)))
-          (cases_lt (count_at g d t v c) 2)
+  same_plan v c lv lc =
+      let p = st.plans v c lv lc in
+      let q = su.plans v c lv lc in
+      let same = same_count v c lv lc in
+      let side = cases_Bool (g.house v) in
+      ⊎_elim
+      (λ (none : d.step c (g.mark v) ≡ None).
+      let one : count_at g d t v c ≡ 1 = st.counts v c lv lc ∙ none_count g d t fit lawful st v c none in
+      grind (arith, p.waits_house, p.waits_guest, q.waits_house, q.waits_guest))
+      (λ (some : (e : ℕ) × (d.step c (g.mark v) ≡ Some e)).
+      let e : ℕ = some.0 in
+      let le = (lawful.settled c (g.mark v) e some.1).2 in
+      grind (
+        arith,
+        p.holds e some.1,
+        q.holds e some.1,
+        zero_once v e (plan_at g d t v c) (plan_at g d u v c) lv le,
+        p.attacks e some.1,
+        q.attacks e some.1,
+        least_once v e (plan_at g d t v c) (plan_at g d u v c) lv le,
+        p.waits_house,
+        q.waits_house,
+        p.waits_guest,
+        q.waits_guest,
+      ))
+      (cases_step (d.step c (g.mark v)))
