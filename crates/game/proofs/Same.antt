@@ -1,9 +1,8 @@
 -- Two solved tables agree at every position.
-use Rattle.std.proofs.Common.{◌≡◌, ℕ, ◌<◌, true, false, length, get_or, Some, None, sym, ◌∙◌, ⊎_elim, arith}
-use Rattle.std.proofs.lemmas.Bool.{cases_Bool, cases_lt}
+use Rattle.std.proofs.Common.{◌≡◌, ℕ, ◌<◌, length, get_or, Some, None, sym, ◌∙◌, ⊎_elim, arith}
+use Rattle.std.proofs.lemmas.Bool.{cases_Bool}
 use Rattle.game.specs.Graph.{Graph, Fit, moves}
 use Rattle.game.specs.Rule.{Rule, Lawful}
-use Rattle.game.specs.Check.{Obeys}
 use Rattle.game.specs.Table.{Table, Solved, LowestZero, LowestLeast, count_at, plan_at, move_count}
 use Rattle.game.proofs.Moves.{moves_inside}
 use Rattle.game.proofs.Rounds.{cases_step}
@@ -33,21 +32,11 @@ module _ (g : Graph) (d : Rule) (fit : Fit g) (lawful : Lawful d) (t u : Table) 
       ⊎_elim
       (λ (none : d.step c (g.mark v) ≡ None).
       let one : count_at g d t v c ≡ 1 = st.counts v c lv lc ∙ none_count g d t fit lawful st v c none in
-      grind (arith, p.waits_house, p.waits_guest, q.waits_house, q.waits_guest))
+      grind arith)
       (λ (some : (e : ℕ) × (d.step c (g.mark v) ≡ Some e)).
       let e : ℕ = some.0 in
       let le = (lawful.settled c (g.mark v) e some.1).2 in
-      grind (
-        arith,
-        p.holds e some.1,
-        q.holds e some.1,
-        zero_once v e (plan_at g d t v c) (plan_at g d u v c) lv le,
-        p.attacks e some.1,
-        q.attacks e some.1,
-        least_once v e (plan_at g d t v c) (plan_at g d u v c) lv le,
-        p.waits_house,
-        q.waits_house,
-        p.waits_guest,
-        q.waits_guest,
-      ))
+      let zero = zero_once v e (plan_at g d t v c) (plan_at g d u v c) lv le in
+      let least = least_once v e (plan_at g d t v c) (plan_at g d u v c) lv le in
+      grind (arith, p.holds e some.1, q.holds e some.1, p.attacks e some.1, q.attacks e some.1))
       (cases_step (d.step c (g.mark v)))
