@@ -48,7 +48,7 @@ module _ (g : Graph) (d : Rule) (t : Table) (fit : Fit g) (lawful : Lawful d) (s
         );
         lost_now = λ some none.
             let one : count_at g d t v c ≡ 1 = is ∙ none_count v c none in
-            (one, ⊎_elim (λ house. plans.waits_house house some) (λ guest. plans.waits_guest guest (omega arith)) (cases_Bool (g.house v)));
+            (one, grind (arith, cases_Bool (g.house v)));
         lost_guest = λ e step some guest.
             let le = (lawful.settled c (g.mark v) e step).2 in
             let k : ℕ = count_at g d t v c - 1 in
