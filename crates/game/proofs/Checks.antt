@@ -1,11 +1,11 @@
 -- The table that the rounds give passes the check.
-use Rattle.std.proofs.Common.{◌≡◌, ℕ, suc, ◌-◌, ◌*◌, ◌<◌, ◌≤◌, length, get_or, None, sym, ◌∙◌, ⊎_elim, arith, mul-le-mul}
+use Rattle.std.proofs.Common.{◌≡◌, ℕ, suc, ◌-◌, ◌*◌, ◌<◌, ◌≤◌, length, get_or, None, sym, ◌∙◌, arith, mul-le-mul}
 use Rattle.std.proofs.lemmas.Bool.{cases_Bool}
 use Rattle.game.specs.Graph.{Graph, Fit, moves}
 use Rattle.game.specs.Rule.{Rule, Lawful}
 use Rattle.game.specs.Rounds.{given}
 use Rattle.game.specs.Table.{Table, count_at, move_count, Solved}
-use Rattle.game.specs.Check.{Obeys, Passes}
+use Rattle.game.specs.Check.{Passes}
 use Rattle.game.proofs.Moves.{moves_inside}
 use Rattle.game.proofs.Rounds.{small, none_one, born, live_test, house_true, guest_true, guest_false, given_later}
 use Rattle.game.proofs.Ends.{stable}
@@ -32,8 +32,8 @@ module _ (g : Graph) (d : Rule) (t : Table) (fit : Fit g) (lawful : Lawful d) (s
       let low = small g d k (get_or (moves g v) j 0) e in
       (omega arith, omega arith)
 
-  pub solved_obeys : (v c : ℕ) → v < g.size → c < d.codes → Obeys g d t v c
-  solved_obeys v c lv lc =
+  pub solved_passes : Passes g d t
+  solved_passes v c lv lc =
       let plans = solved.plans v c lv lc in
       let is = solved.counts v c lv lc in
       record {
@@ -66,6 +66,3 @@ module _ (g : Graph) (d : Rule) (t : Table) (fit : Fit g) (lawful : Lawful d) (s
               (low.0, omega (arith, low)),
         );
       }
-
-  pub solved_passes : Passes g d t
-  solved_passes v c lv lc = solved_obeys v c lv lc
