@@ -11,17 +11,15 @@ use Rattle.game.proofs.Moves.{moves_inside}
 use Rattle.game.proofs.Rounds.{small, live_some, live_test, born, house_true, house_false, guest_true, guest_false, given_later, zero_earlier}
 
 -- a sum over the numbers below n
-total : (ℕ → ℕ) → ℕ → ℕ
+abbrev total : (ℕ → ℕ) → ℕ → ℕ
 total f zero = 0
 total f (suc n) = f n + total f n
 
 total_le : (f h : ℕ → ℕ) (n : ℕ) → ((i : ℕ) → i < n → f i ≤ h i) → total f n ≤ total h n
-unfolding total
 total_le f h zero each = omega arith
 total_le f h (suc n) each = omega (arith, each n (omega arith), total_le f h n (λ i l. each i (omega arith)))
 
 total_same : (f h : ℕ → ℕ) (n : ℕ) → ((i : ℕ) → i < n → f i ≤ h i) → total h n ≤ total f n → (i : ℕ) → i < n → h i ≤ f i
-unfolding total
 total_same f h zero each most i l = absurd (omega arith)
 total_same f h (suc n) each most i l =
     let rest = total_le f h n (λ j m. each j (omega arith)) in
@@ -29,28 +27,24 @@ total_same f h (suc n) each most i l =
     grind (arith, each n (omega arith), rest, below)
 
 total_bound : (f : ℕ → ℕ) (n : ℕ) → ((i : ℕ) → f i ≤ 1) → total f n ≤ n
-unfolding total
 total_bound f zero each = omega arith
 total_bound f (suc n) each = omega (arith, each n, total_bound f n each)
 
 module _ (g : Graph) (d : Rule) where
   -- 1 where round r has left a count at the position of number p
-  cell : ℕ → ℕ → ℕ
+  abbrev cell : ℕ → ℕ → ℕ
   cell r p = min 1 (given g d r (p / d.codes) (p % d.codes))
 
-  tally : ℕ → ℕ
+  abbrev tally : ℕ → ℕ
   tally r = total (cell r) (positions g d)
 
   cell_grows : (r p : ℕ) → cell r p ≤ cell (suc r) p
-  unfolding cell
   cell_grows r p = grind (arith, given_later g d r (suc r))
 
   tally_bound : (r : ℕ) → tally r ≤ positions g d
-  unfolding tally cell
   tally_bound r = total_bound (cell r) (positions g d) (λ p. omega arith)
 
   quiet_tally : (r : ℕ) → tally (suc r) ≤ tally r → Quiet g d r
-  unfolding tally cell
   quiet_tally r h v c lv lc z =
       let inside = mul-add-lt v d.codes c g.size lv lc in
       let same = total_same (cell r) (cell (suc r)) (positions g d) (λ p l. cell_grows r p) h (v * d.codes + c) (omega arith) in

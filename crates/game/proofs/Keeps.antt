@@ -1,7 +1,6 @@
 -- What a table that passes the check tells of a place: counts along the walks of its plans.
-use Rattle.std.proofs.Common.{◌≡◌, ℕ, ◌+◌, ◌<◌, ◌≤◌, Bool, true, false, cond, ltb, ◌⊎◌, List, [], ◌∷◌, length, Some, ◌∙◌, inl, inr, ⊎_elim, arith}
+use Rattle.std.proofs.Common.{◌≡◌, ℕ, ◌+◌, ◌-◌, ◌<◌, ◌≤◌, min, Bool, true, false, ◌⊎◌, List, [], ◌∷◌, length, Some, ◌∙◌, inl, inr, ⊎_elim, arith}
 use Rattle.std.proofs.lemmas.Bool.{cases_Bool}
-use Rattle.std.proofs.lemmas.Bool.Decides.{nat_tests}
 use Rattle.std.proofs.lemmas.List.{length_push}
 use Rattle.game.specs.Graph.{Graph, Fit, moves}
 use Rattle.game.specs.Rule.{Rule, Lawful}
@@ -11,16 +10,6 @@ use Rattle.game.specs.Check.{Obeys, Passes}
 use Rattle.game.specs.Laws.{Told}
 use Rattle.game.proofs.Moves.{moves_some}
 use Rattle.game.proofs.Walks.{onto, along, push_last, before, before_push, step_at, On, stays_broken, on_one, on_grows, standing}
-
--- k where it is below n, else 0
-abbrev limit : ℕ → ℕ → ℕ
-limit k n = cond (ltb k n) k 0
-
-limit_same : (k n : ℕ) → k < n → limit k n ≡ k
-limit_same k n h = grind (arith, nat_tests)
-
-limit_below : (k n : ℕ) → 0 < n → limit k n < n
-limit_below k n h = grind (arith, nat_tests)
 
 module _ (g : Graph) (d : Rule) (t : Table) where
   -- the count and the plan byte of the position where a walk stands
@@ -35,11 +24,11 @@ module _ (g : Graph) (d : Rule) (t : Table) where
     pub some : 0 < count_of w
     pub few : count_of w + length w ≤ n + 1
 
-  -- the plan that a table gives a side
+  -- the plan that a table gives a side: the plan byte's move, or where it names none, the last one
   abbrev table_plan : (side : Bool) → Plan g side
   table_plan side = record {
-    choose = λ w. limit (byte_of w) (length (moves g (last w)));
-    fit = λ w walk is. limit_below _ _ (moves_some g (last w));
+    choose = λ w. min (byte_of w) (length (moves g (last w)) - 1);
+    fit = λ w walk is. omega (arith, moves_some g (last w));
   }
 
   module _ (fit : Fit g) (lawful : Lawful d) (passes : Passes g d t) where
@@ -102,7 +91,7 @@ module _ (g : Graph) (d : Rule) (t : Table) where
           (λ none. absurd (safe_end u safe.0 safe.1 none.1))
           (λ live. (
             (on_grows g d fit lawful u live.0 k safe.0 live.1 l).0,
-            safe_grows u live.0 k safe.0 safe.1 live.1 l (λ house. same house ∙ limit_same _ _ ((obeys_at u safe.0).safe_house live.0 live.1 safe.1 house).0),
+            safe_grows u live.0 k safe.0 safe.1 live.1 l (λ house. omega (arith, same house, (obeys_at u safe.0).safe_house live.0 live.1 safe.1 house)),
           ))
           (standing g d fit lawful u safe.0)) in
           safe_end w safe.0 safe.1 broken,
@@ -128,7 +117,7 @@ module _ (g : Graph) (d : Rule) (t : Table) where
           (λ none. broke none.1)
           (λ live. inr (
             (on_grows g d fit lawful u live.0 k here.0 live.1 l).0,
-            chased_grows n u live.0 k here.0 here.1 live.1 l (λ guest. same guest ∙ limit_same _ _ ((obeys_at u here.0).lost_guest live.0 live.1 here.1.some guest).0),
+            chased_grows n u live.0 k here.0 here.1 live.1 l (λ guest. omega (arith, same guest, (obeys_at u here.0).lost_guest live.0 live.1 here.1.some guest)),
           ))
           (standing g d fit lawful u here.0))
           hunted)),
