@@ -4,7 +4,7 @@ use Rattle.std.proofs.lemmas.Bool.{cases_Bool}
 use Rattle.std.proofs.lemmas.List.{length_push}
 use Rattle.game.specs.Graph.{Graph, Fit, moves}
 use Rattle.game.specs.Rule.{Rule, Lawful}
-use Rattle.game.specs.Walks.{Plan, Broken, HouseKeeps, GuestBreaks, code_before, first, last}
+use Rattle.game.specs.Walks.{Walk, Plan, Broken, HouseKeeps, GuestBreaks, code_before, first, last}
 use Rattle.game.specs.Table.{Table, count_at, plan_at, place_count, move_count}
 use Rattle.game.specs.Check.{Obeys, Passes}
 use Rattle.game.specs.Laws.{Told}
@@ -82,45 +82,50 @@ module _ (g : Graph) (d : Rule) (t : Table) where
     abbrev Safe : List ℕ → Type 0
     Safe w = On g d w × (count_of w ≡ 0)
 
+    safe_goes : (w : List ℕ) (k : ℕ) → Walk g w → Safe w → k < length (moves g (last w)) → (g.house (last w) ≡ true → k ≡ (table_plan true).choose w) → Safe (onto g w k)
+    safe_goes w k walk (on, z) l same =
+        ⊎_elim
+        (λ none. absurd (safe_end w on z none.1))
+        (λ live. (
+          (on_grows g d fit lawful w live.0 k on live.1 l).0,
+          safe_grows w live.0 k on z live.1 l (λ house. omega (arith, same house, (obeys_at w on).safe_house live.0 live.1 z house)),
+        ))
+        (standing g d fit lawful w on)
+
     pub keeps : (v : ℕ) → place_count g d t v ≡ 0 → HouseKeeps g d v
     keeps v z = (
       table_plan true,
-      λ w walk from follows broken.
-          let safe = along g true (table_plan true) Safe w walk follows (on_one g d fit lawful (first w) walk.inside, start_count w v from ∙ z) (λ u k walked safe l same.
-          ⊎_elim
-          (λ none. absurd (safe_end u safe.0 safe.1 none.1))
-          (λ live. (
-            (on_grows g d fit lawful u live.0 k safe.0 live.1 l).0,
-            safe_grows u live.0 k safe.0 safe.1 live.1 l (λ house. omega (arith, same house, (obeys_at u safe.0).safe_house live.0 live.1 safe.1 house)),
-          ))
-          (standing g d fit lawful u safe.0)) in
-          safe_end w safe.0 safe.1 broken,
+      λ w walk from follows.
+          let start : Safe (first w ∷ []) = (on_one g d fit lawful (first w) walk.inside, start_count w v from ∙ z) in
+          let safe = along g true (table_plan true) Safe w walk follows start safe_goes in
+          safe_end w safe.0 safe.1,
     )
 
     -- broken before the last place, or still chased
     abbrev Hunted : ℕ → List ℕ → Type 0
     Hunted n w = d.Breaks (before g d w) ⊎ (On g d w × Chased n w)
 
+    hunted_goes : (n : ℕ) (w : List ℕ) (k : ℕ) → Walk g w → Hunted n w → k < length (moves g (last w)) → (g.house (last w) ≡ false → k ≡ (table_plan false).choose w) → Hunted n (onto g w k)
+    hunted_goes n w k walk (inl lost) l same = inl (rw (before_push g d w _) (stays_broken g d fit lawful w walk.some lost))
+    hunted_goes n w k walk (inr (on, chased)) l same =
+        ⊎_elim
+        (λ none. inl (rw (before_push g d w _) none.1))
+        (λ live. inr (
+          (on_grows g d fit lawful w live.0 k on live.1 l).0,
+          chased_grows n w live.0 k on chased live.1 l (λ guest. omega (arith, same guest, (obeys_at w on).lost_guest live.0 live.1 chased.some guest)),
+        ))
+        (standing g d fit lawful w on)
+
     pub breaks_in : (v n : ℕ) → 0 < n → place_count g d t v ≡ n → GuestBreaks g d v n
     breaks_in v n some is = (
       table_plan false,
       λ w walk from follows long.
           let count = start_count w v from in
+          let start : Hunted n (first w ∷ []) = inr (on_one g d fit lawful (first w) walk.inside, record { some = omega arith; few = omega arith }) in
           ⊎_elim
           (stays_broken g d fit lawful w walk.some)
           (λ here. chased_end n w here.0 here.1 long)
-          (along g false (table_plan false) (Hunted n) w walk follows (inr (on_one g d fit lawful (first w) walk.inside, record { some = omega arith; few = omega arith })) (λ u k walked hunted l same.
-          let broke : Broken g d u → Hunted n (onto g u k) = λ broken. inl (rw (before_push g d u _) broken) in
-          ⊎_elim
-          (λ lost. broke (stays_broken g d fit lawful u walked.some lost))
-          (λ here. ⊎_elim
-          (λ none. broke none.1)
-          (λ live. inr (
-            (on_grows g d fit lawful u live.0 k here.0 live.1 l).0,
-            chased_grows n u live.0 k here.0 here.1 live.1 l (λ guest. omega (arith, same guest, (obeys_at u here.0).lost_guest live.0 live.1 here.1.some guest)),
-          ))
-          (standing g d fit lawful u here.0))
-          hunted)),
+          (along g false (table_plan false) (Hunted n) w walk follows start (hunted_goes n)),
     )
 
     -- what a passed table tells of a place

@@ -3,12 +3,8 @@ use Rattle.std.proofs.Common.{◌≡◌, ℕ, zero, suc, ◌<◌, ◌≤◌, Boo
 use native.Mathlib.Decide.{le_ind}
 use Rattle.game.specs.Graph.{Graph, moves}
 use Rattle.game.specs.Rule.{Rule}
-use Rattle.game.specs.Rounds.{or_else, counted, attracted, fresh, given}
+use Rattle.game.specs.Rounds.{counted, attracted, fresh, given}
 use Rattle.game.proofs.Moves.{all_true, all_false, any_true, any_false, counted_true, counted_false}
-
-or_else_kept : (a b : ℕ) → 0 < a → or_else a b ≡ a
-or_else_kept zero b some = absurd (omega arith)
-or_else_kept (suc a) b some = refl
 
 -- a step is broken or answers a code
 pub cases_step : (o : Option ℕ) → (o ≡ None) ⊎ ((e : ℕ) × (o ≡ Some e))
@@ -22,7 +18,7 @@ module _ (g : Graph) (d : Rule) where
 
   stays : (r v c : ℕ) → 0 < given g d r v c → given g d (suc r) v c ≡ given g d r v c
   unfolding given
-  stays r v c = or_else_kept (given g d r v c) _
+  stays r v c some = grind arith
 
   -- what is given by round r is given for good
   pub given_later : (r q v c : ℕ) → r ≤ q → 0 < given g d r v c → given g d q v c ≡ given g d r v c
@@ -35,14 +31,10 @@ module _ (g : Graph) (d : Rule) where
   pub zero_earlier : (r q v c : ℕ) → r ≤ q → given g d q v c ≡ 0 → given g d r v c ≡ 0
   zero_earlier r q v c h z = grind (arith, given_later r q v c h)
 
-  fresh_le : (r v : ℕ) (before : ℕ → ℕ → ℕ) (o : Option ℕ) → fresh g r v before o ≤ suc r
-  fresh_le r v before None = omega arith
-  fresh_le r v before (Some e) = grind arith
-
   pub small : (r v c : ℕ) → given g d r v c ≤ r
   unfolding given
   small zero v c = omega arith
-  small (suc r) v c = grind (arith, small r v c, fresh_le r v (given g d r) (d.step c (g.mark v)))
+  small (suc r) v c = grind (arith, small r v c)
 
   pub new : (r v c : ℕ) → given g d r v c ≡ 0 → given g d (suc r) v c ≡ fresh g r v (given g d r) (d.step c (g.mark v))
   unfolding given

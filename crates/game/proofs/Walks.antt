@@ -9,6 +9,7 @@ use Rattle.game.specs.Walks.{Walk, Plan, Follows, Broken, code_before, first, la
 use Rattle.game.proofs.Moves.{moves_inside}
 use Rattle.game.proofs.Rounds.{cases_step}
 
+-- two answers are the same, or they differ
 pub cases_beq : (a b : Bool) → ((beq a b ≡ true) × (a ≡ b)) ⊎ ((beq a b ≡ false) × (a ≡ b → ⊥))
 cases_beq a b = grind arith
 
@@ -112,6 +113,7 @@ module _ (g : Graph) (d : Rule) where
     marks_fit (v ∷ w) zero l = fit.marks v
     marks_fit (v ∷ w) (suc i) l = marks_fit w i (le_of_suc-le-suc l)
 
+    -- what is broken before the last place is broken
     pub stays_broken : (w : List ℕ) → 0 < length w → d.Breaks (before w) → Broken g d w
     stays_broken w some lost =
         let split = marks_split w some in
@@ -120,6 +122,7 @@ module _ (g : Graph) (d : Rule) where
     pub on_one : (v : ℕ) → v < g.size → On (v ∷ [])
     on_one v l = record { some = omega arith; inside = l; unbroken = lawful.empty_unbroken; settled = rw lawful.empty_code lawful.begins }
 
+    -- where the step answers a code, the walk is not broken, and its marks have that code
     pub goes : (w : List ℕ) (e : ℕ) → On w → step_at w ≡ Some e → (Broken g d w → ⊥) × (d.code (map g.mark w) ≡ e)
     goes w e on step = rw (marks_split w on.some, Broken) (lawful.goes_on (before w) _ e (marks_fit (take _ w)) (fit.marks _) on.unbroken step)
 
