@@ -1,7 +1,7 @@
 -- Walks that are drawn a place at a time: by one side's plan against the rounds, and by a plan of each side.
 use Rattle.std.proofs.Common.{◌≡◌, ℕ, zero, suc, ◌-◌, ◌<◌, ◌≤◌, true, false, List, [], ◌∷◌, length, get_or, refl, ap, ◌∙◌, ⊎_elim, arith}
 use Rattle.std.proofs.lemmas.List.{length_push, get_or_append_left}
-use Rattle.std.proofs.lemmas.Bool.{cases_Bool, both_ways}
+use Rattle.std.proofs.lemmas.Bool.{cases_Bool}
 use Rattle.game.specs.Graph.{Graph, Fit, moves}
 use Rattle.game.specs.Rule.{Rule, Lawful}
 use Rattle.game.specs.Walks.{Walk, Plan, Follows, HouseKeeps, GuestBreaks, code_before, first, last}
@@ -33,7 +33,7 @@ module _ (g : Graph) where
         holds = k.2;
       }
 
-  -- a plan of each side draw a walk of any length
+  -- two plans, one of each side, together draw a walk of any length
   both : (p : Plan g true) (q : Plan g false) (v i : ℕ) → v < g.size → Line (λ w. Follows g true p w × Follows g false q w) v i
   both p q v i l =
       draw _ v i l ((λ j h. absurd (omega arith)), (λ j h. absurd (omega arith))) (λ w walk low holds.
@@ -41,17 +41,17 @@ module _ (g : Graph) where
       (λ house. (
         p.choose w,
         p.fit w walk house,
-        (follows_grows g true p w _ walk.some holds.0 (λ is. refl), follows_grows g false q w _ walk.some holds.1 (λ is. absurd (both_ways _ is house))),
+        (follows_grows g true p w _ walk.some holds.0 (λ is. refl), follows_grows g false q w _ walk.some holds.1 (λ is. cc)),
       ))
       (λ guest. (
         q.choose w,
         q.fit w walk guest,
-        (follows_grows g true p w _ walk.some holds.0 (λ is. absurd (both_ways _ guest is)), follows_grows g false q w _ walk.some holds.1 (λ is. refl)),
+        (follows_grows g true p w _ walk.some holds.0 (λ is. cc), follows_grows g false q w _ walk.some holds.1 (λ is. refl)),
       ))
       (cases_Bool (g.house (last w))))
 
 module _ (g : Graph) (d : Rule) (fit : Fit g) (lawful : Lawful d) where
-  -- a walk that the guest's plan leaves, where as many rounds as marks are left of m give nothing
+  -- a walk that the guest's plan leaves, at a position to which the first m + 1 - length rounds give nothing
   record Alive (q : Plan g false) (m : ℕ) (w : List ℕ) : Type 0 where
     follows : Follows g false q w
     on : On g d w
@@ -74,7 +74,7 @@ module _ (g : Graph) (d : Rule) (fit : Fit g) (lawful : Lawful d) where
         none = rw (left, push_last w x, on.1) z;
       } in
       ⊎_elim
-      (λ house. let k = house_false g d r (last w) e house test in (k.0, k.1, grown k.0 k.1 k.2 (λ is. absurd (both_ways _ is house))))
+      (λ house. let k = house_false g d r (last w) e house test in (k.0, k.1, grown k.0 k.1 k.2 (λ is. cc)))
       (λ guest.
       let l = q.fit w walk guest in
       (q.choose w, l, grown (q.choose w) l (guest_false g d r (last w) e guest test (q.choose w) l) (λ is. refl)))
