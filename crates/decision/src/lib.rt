@@ -42,6 +42,7 @@ impl From<Refusal> for Declined {
     }
 }
 
+// A refusal is told by three numbers, and 0 is what it says where there is none: so the three are no enum and no Option.
 impl Declined {
     pub fn number(self) -> u8
         ensures { result ≡ number_of self }
@@ -52,8 +53,7 @@ impl Declined {
         }
     }
 
-    // The line of the text, from 1 on; 0 where no line is at fault. It is no Option, and neither is the field: a refusal is
-    // told by three numbers, and 0 is what it says there.
+    // The line of the text, from 1 on; 0 where no line is at fault.
     pub fn line(self) -> usize
         ensures { result ≡ line_of self }
     {

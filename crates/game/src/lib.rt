@@ -73,20 +73,13 @@ impl Refusal {
     }
 }
 
-// Whether halving a number leaves a remainder.
-fn leaves_remainder(n: u8) -> bool
-    ensures { result ≡ is_odd n }
-{
-    n % 2 != 0
-}
-
 // Whether a mark is odd: the one place in the build that tells.
 #[tactic(auto, using(crate::proofs::Parities::tells_odd))]
 pub fn is_odd(mark: u8) -> bool
     ensures test { result ≡ is_odd mark }
     ensures means { TellsOdd mark result }
 {
-    leaves_remainder(mark)
+    mark % 2 != 0
 }
 
 // A map (a game graph), by its questions. Each is answered from the graph alone, at any number, and alters nothing.
@@ -134,12 +127,12 @@ pub trait Duty {
         ensures { result ≡ (rule self.now).step c m };
 }
 
-// How many positions there are: places times codes, at most 31,872. Calls take a map and a duty and not a pair: no caller
-// has one, and it would be made only to be passed on.
+// How many positions there are: places times codes, at most 31,872. Calls take a map and a duty as two: no fact ties them, and
+// a struct of two references would be made at each call and taken apart behind it.
 pub fn position_count<M: Map, D: Duty>(map: &M, duty: &D) -> u16
     ensures { result ≡ positions (M.graph map.now) (D.rule duty.now) }
 {
-    map.size() as u16 * duty.codes() as u16
+    u16::from(map.size()) * u16::from(duty.codes())
 }
 
 // The laws of rounds, tables, the check and shifts hold for this map and duty.

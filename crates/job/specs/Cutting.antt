@@ -1,4 +1,4 @@
--- Where lines and fields end, and what the cutter's answers say of the text that is left.
+-- What the answers of the cutter say of the text that is left.
 use Rattle.std.specs.Prelude.{◌≡◌, ℕ, List}
 use Rattle.job.specs.declared.faults.CutFault.{CutFault}
 use Rattle.job.specs.declared.faults.CutFault.TheVariants.{NoEnd, TooLong}

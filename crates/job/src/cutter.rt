@@ -38,7 +38,7 @@ impl<'a> Cutter<'a> {
     }
 
     // The next line without its end; none at the end of the text.
-    // No Iterator: its items would be results and come again after a fault, and the reader's loop would gain an unpacking.
+    // No Iterator: each item would be a Result, and after a fault the same fault would come for ever.
     #[tactic(auto, using(std::proofs::lemmas::List::nil_from_length))]
     pub(crate) fn next(&mut self) -> Result<Option<&'a [u8]>, CutFault>
         ensures { MatchResult result

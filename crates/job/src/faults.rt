@@ -13,7 +13,7 @@ pub enum CutFault {
     TooLong { line: usize },
 }
 
-// A field cannot be read. Its line and its place stand in each case, and not in a struct: callers match on the cases.
+// A field cannot be read. Line and field stand in each case, and not in a struct of the two: each is told alone.
 #[derive(Clone, Copy, Debug, PartialEq, Eq)]
 pub enum RecordFault {
     Cut(CutFault),
@@ -21,7 +21,7 @@ pub enum RecordFault {
     UnknownWord { line: usize, field: u8 },
 }
 
-// The lines do not make a job.
+// The lines do not make a job. A field is named here as it is in RecordFault.
 #[derive(Clone, Copy, Debug, PartialEq, Eq)]
 pub enum JobFault {
     Record(RecordFault),

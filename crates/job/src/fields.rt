@@ -13,7 +13,8 @@ fn is_comma(byte: &u8) -> bool
     *byte == COMMA
 }
 
-// A line's first field, and the four after it, as far as it has so many.
+// A line's first field, and the four after it, as far as it has so many. The first is always there; it is an Option because
+// `next` answers one.
 pub(crate) fn first_fields<'a>(line: &'a [u8]) -> (Option<&'a [u8]>, [Option<&'a [u8]>; 4])
     ensures { seen result.0 ∷ map seen result.1 ≡ padded 5 (fields line.now) }
 {
@@ -24,7 +25,7 @@ pub(crate) fn first_fields<'a>(line: &'a [u8]) -> (Option<&'a [u8]>, [Option<&'a
     )
 }
 
-// A number of 1 to 3 digits without leading zero.
+// A number of 1 to 3 digits without leading zero. By its digits and not by `parse`, which takes a sign and leading zeros.
 pub(crate) fn read_number(field: &[u8]) -> Option<u16>
     ensures { result ≡ number field.now }
 {

@@ -53,8 +53,8 @@ impl<'a> Reader<'a> {
         self.finish()
     }
 
-    // What is due after a line that has just been cut, if its kind is due. Phase and kind are matched together, so that one
-    // place says what may follow what.
+    // What is due after a line that has just been cut, if its kind is due. Phase and kind are matched together, so that what
+    // may follow what is said once.
     fn phase_after(&self, kind: Option<Line<'a>>) -> Result<Phase, JobFault>
         ensures { judged self.now.cutter.line (state_of self.now.phase) (option_map shown_line kind.entry)
             ≡ goes result (λ phase. next (state_of phase)) }
@@ -89,11 +89,11 @@ impl<'a> Reader<'a> {
 fn small_number(field: Field) -> Result<u8, JobFault>
     ensures { MatchResult result
         (λ b. number field.entry.text.now ≡ Some b)
-        (λ e. (low top : ℕ) (go : ℕ → Ruling) → top ≤ 256 → within field.entry.line field.entry.place low top field.entry.text.now go ≡ unfit e) }
+        (λ e. (low top : ℕ) (go : ℕ → Ruling) → top ≤ 256 → within field.entry.line field.entry.number low top field.entry.text.now go ≡ unfit e) }
 {
     u8::try_from(field.numeral()?).map_err(|_| JobFault::OutOfRange {
         line: field.line,
-        field: field.place,
+        field: field.number,
     })
 }
 
@@ -105,14 +105,14 @@ fn duty_record(line: usize, word: &[u8], bound: Option<&[u8]>) -> Result<Window,
     let DutyWord::Window = Field {
         text: word,
         line,
-        place: 2,
+        number: 2,
     }
     .duty_word()?;
     let number = match bound {
         Some(text) => small_number(Field {
             text,
             line,
-            place: 3,
+            number: 3,
         })?,
         None => DEFAULT_BOUND,
     };
@@ -127,7 +127,7 @@ fn queue_record(line: usize, capacity: &[u8]) -> Result<Queue, JobFault>
     let number = small_number(Field {
         text: capacity,
         line,
-        place: 2,
+        number: 2,
     })?;
     Queue::new(number).map_err(|_| JobFault::OutOfRange { line, field: 2 })
 }

@@ -125,12 +125,12 @@ pub(crate) fn next_line<'a>(cutter: &mut Cutter<'a>) -> Result<Option<&'a [u8]>,
     Ok(cutter.next()?)
 }
 
-// A field to be read: its bytes, and for a fault the line that it stands in and its place there.
+// A field to be read: its bytes, and for a fault the line that it stands in and its number there.
 #[derive(Clone, Copy)]
 pub(crate) struct Field<'a> {
     pub(crate) text: &'a [u8],
     pub(crate) line: usize,
-    pub(crate) place: u8,
+    pub(crate) number: u8,
 }
 
 impl<'a> Field<'a> {
@@ -138,11 +138,11 @@ impl<'a> Field<'a> {
     pub(crate) fn numeral(self) -> Result<u16, RecordFault>
         ensures { MatchResult result
             (λ n. number self.entry.text.now ≡ Some n)
-            (λ e. (number self.entry.text.now ≡ None) × (e ≡ NotNumber self.entry.line self.entry.place)) }
+            (λ e. (number self.entry.text.now ≡ None) × (e ≡ NotNumber self.entry.line self.entry.number)) }
     {
         read_number(self.text).ok_or(RecordFault::NotNumber {
             line: self.line,
-            field: self.place,
+            field: self.number,
         })
     }
 
@@ -150,11 +150,11 @@ impl<'a> Field<'a> {
     pub(crate) fn duty_word(self) -> Result<DutyWord, RecordFault>
         ensures { MatchResult result
             (λ w. duty_word self.entry.text.now ≡ Some w)
-            (λ e. (duty_word self.entry.text.now ≡ None) × (e ≡ UnknownWord self.entry.line self.entry.place)) }
+            (λ e. (duty_word self.entry.text.now ≡ None) × (e ≡ UnknownWord self.entry.line self.entry.number)) }
     {
         DutyWord::read(self.text).ok_or(RecordFault::UnknownWord {
             line: self.line,
-            field: self.place,
+            field: self.number,
         })
     }
 }

@@ -61,7 +61,8 @@ fn place_line(v: u8, count: u16) -> Line
     line
 }
 
-// The counts of a game's table: one at least for each position.
+// The counts of a game's table: one at least for each position. It is the crate's own, as the solver's Position is: a struct
+// that crates share would be public, and a public call asks nothing and would have to answer off the table too.
 #[derive(Drop)]
 struct Counts<'a, M: Map, D: Duty> {
     map: &'a M,
@@ -71,13 +72,13 @@ struct Counts<'a, M: Map, D: Duty> {
 }
 
 impl<M: Map, D: Duty> Counts<'_, M, D> {
-    // A place's count: that of its position with the start code.
+    // A place's count: that of its position with the start code. 0 says that there is none: so the table has it.
     fn of_place(&self, v: u8) -> u16
         requires { v < (M.graph self.now.map.now).size }
         ensures { result ≡ place_count
             (M.graph self.now.map.now) (D.rule self.now.duty.now) (table [] self.now.count.now) v }
     {
-        self.count[v as usize * self.duty.codes() as usize + self.duty.start() as usize]
+        self.count[usize::from(v) * usize::from(self.duty.codes()) + usize::from(self.duty.start())]
     }
 
     // How many places the house is given.
@@ -108,6 +109,7 @@ impl<M: Map, D: Duty> Counts<'_, M, D> {
 }
 
 // Writes the listing of the counts at the start of the space and answers its length; or refuses and changes nothing.
+// The space is lent: the C call has no allocator, and hands in a space and takes a length.
 pub fn write_listing<M: Map, D: Duty>(
     map: &M,
     duty: &D,
@@ -118,7 +120,7 @@ pub fn write_listing<M: Map, D: Duty>(
         (Listed (M.graph map.now) (D.rule duty.now) count.now space.old space.new)
         (Refused (M.graph map.now) (D.rule duty.now) count.now space.old space.new) }
 {
-    if count.len() < position_count(map, duty) as usize {
+    if count.len() < usize::from(position_count(map, duty)) {
         return Err(Refusal::Short);
     }
     if space.len() < SPACE {

@@ -1,12 +1,13 @@
 -- Searches among the moves of a place by their numbers are searches among the places where they lead.
-use Rattle.std.proofs.Common.{◌≡◌, ℕ, suc, ◌<◌, Bool, ◌||◌, List, [], ◌∷◌, length, get_or, map, sym, refl, ap, ◌∙◌, arith}
+use Rattle.std.proofs.Common.{◌≡◌, ℕ, suc, ◌<◌, Bool, cond, ◌||◌, List, [], ◌∷◌, length, get_or, map, sym, refl, ap, ◌∙◌, arith}
 use Rattle.std.specs.Prelude.{Some, None, Option}
 use Rattle.std.specs.List.{list_all, list_any, range_with_len}
 use Rattle.std.proofs.lemmas.List.{ext_get_or}
 use Rattle.std.proofs.lemmas.List.FromFn.{length-map-range_with_len, get_or-map-range_with_len}
 use Rattle.std.proofs.lemmas.List.Folds.{list_all-map}
 use Rattle.game.specs.Graph.{Graph, moves}
-use Rattle.game.specs.Rounds.{counted}
+use Rattle.game.specs.Rounds.{counted, attracted}
+use Rattle.solver.specs.Moves.{all_counted, some_counted}
 use Rattle.solver.specs.Rounds.{gains}
 
 -- a list, read at each of its indices
@@ -16,15 +17,23 @@ read_all xs =
     ext_get_or 0 (map (λ k. get_or xs k 0) (range_with_len 0 (length xs))) xs long
     (λ i h. get_or-map-range_with_len (λ k. get_or xs k 0) 0 (length xs) i i 0 (omega (arith, long)) (omega arith))
 
-pub all_read : (p : ℕ → Bool) (xs : List ℕ) → list_all (λ k. p (get_or xs k 0)) (range_with_len 0 (length xs)) ≡ list_all p xs
+all_read : (p : ℕ → Bool) (xs : List ℕ) → list_all (λ k. p (get_or xs k 0)) (range_with_len 0 (length xs)) ≡ list_all p xs
 all_read p xs = sym (list_all-map p (λ k. get_or xs k 0) (range_with_len 0 (length xs))) ∙ ap (list_all p) (read_all xs)
 
 any_map : (p : ℕ → Bool) (h : ℕ → ℕ) (ks : List ℕ) → list_any p (map h ks) ≡ list_any (λ k. p (h k)) ks
 any_map p h [] = refl
 any_map p h (k ∷ ks) = ap (λ (b : Bool). p (h k) || b) (any_map p h ks)
 
-pub any_read : (p : ℕ → Bool) (xs : List ℕ) → list_any (λ k. p (get_or xs k 0)) (range_with_len 0 (length xs)) ≡ list_any p xs
+any_read : (p : ℕ → Bool) (xs : List ℕ) → list_any (λ k. p (get_or xs k 0)) (range_with_len 0 (length xs)) ≡ list_any p xs
 any_read p xs = sym (any_map p (λ k. get_or xs k 0) (range_with_len 0 (length xs))) ∙ ap (list_any p) (read_all xs)
+
+-- a place is counted by its moves' numbers as by the places where they lead
+pub attracted_told : (g : Graph) (v : ℕ) (at : ℕ → ℕ) → attracted g v at
+    ≡ cond (g.house v) (all_counted (λ k. at (get_or (moves g v) k 0)) (length (moves g v))) (some_counted (λ k. at (get_or (moves g v) k 0)) (length (moves g v)))
+attracted_told g v at =
+    let all = all_read (λ t. counted (at t)) (moves g v) in
+    let any = any_read (λ t. counted (at t)) (moves g v) in
+    cc
 
 all_same : (f h : ℕ → Bool) (xs : List ℕ) → ((k : ℕ) → k < length xs → f (get_or xs k 0) ≡ h (get_or xs k 0))
     → list_all f xs ≡ list_all h xs

@@ -28,7 +28,7 @@ pub fn solve<M: Map, D: Duty>(
         (λ e. (e ≡ Short) × ShortOf (M.graph map.now) (D.rule duty.now)
         plan.old count.old plan.new count.new) }
 {
-    let most = position_count(map, duty) as usize;
+    let most = usize::from(position_count(map, duty));
     if plan.len() < most || count.len() < most {
         return Err(Refusal::Short);
     }

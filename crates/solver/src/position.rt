@@ -1,11 +1,10 @@
 // A position of a game, and what the counts of all positions say of it.
 ghost use Rattle.std.specs.Prelude.{◌≡◌, ◌<◌, ◌≤◌, [], length};
 ghost use Rattle.std.specs.Option.{unwrap_or};
-ghost use Rattle.std.specs.List.{list_all, list_any};
 ghost use Rattle.game.specs.Graph.{moves};
-ghost use Rattle.game.specs.Rounds.{positions, counted, attracted};
+ghost use Rattle.game.specs.Rounds.{positions, attracted};
 ghost use Rattle.game.specs.Table.{entry, move_count, table};
-ghost use Rattle.solver.specs.Moves.{lowest, least};
+ghost use Rattle.solver.specs.Moves.{all_counted, some_counted, lowest, least};
 ghost use Rattle.solver.specs.Rounds.{gains_at, is_due, Finished};
 ghost use Rattle.solver.specs.Solve.{FitPlan};
 
@@ -64,6 +63,7 @@ impl<'a, M: Map, D: Duty> Position<'a, M, D> {
         Position::new(self.map, self.duty, self.count, place, code)
     }
 
+    // 0 says that there is none: so the table has it, and it is compared as it stands.
     fn count(&self) -> u16
         ensures { result ≡ entry (D.rule self.now.duty.now).codes self.now.count.now
             self.now.place self.now.code }
@@ -75,8 +75,7 @@ impl<'a, M: Map, D: Duty> Position<'a, M, D> {
     fn moves(&self) -> u8
         ensures { result ≡ length (moves (M.graph self.now.map.now) self.now.place) }
     {
-        let ways = self.map.ways(self.place);
-        if ways == 0 { 1 } else { ways }
+        self.map.ways(self.place).max(1)
     }
 
     // The count where move k leads, at the same code.
@@ -90,23 +89,26 @@ impl<'a, M: Map, D: Duty> Position<'a, M, D> {
 
     // Whether all moves lead to counted positions.
     fn all_counted(&self) -> bool
-        ensures { result ≡ list_all
-            (λ t. counted (entry (D.rule self.now.duty.now).codes self.now.count.now t self.now.code))
-            (moves (M.graph self.now.map.now) self.now.place) }
+        ensures { result ≡ all_counted
+            (move_count (M.graph self.now.map.now) (D.rule self.now.duty.now)
+            (table [] self.now.count.now) self.now.place self.now.code)
+            (length (moves (M.graph self.now.map.now) self.now.place)) }
     {
         (0..self.moves()).all(|k| self.ahead(k) != 0)
     }
 
     // Whether some move leads to a counted position.
     fn some_counted(&self) -> bool
-        ensures { result ≡ list_any
-            (λ t. counted (entry (D.rule self.now.duty.now).codes self.now.count.now t self.now.code))
-            (moves (M.graph self.now.map.now) self.now.place) }
+        ensures { result ≡ some_counted
+            (move_count (M.graph self.now.map.now) (D.rule self.now.duty.now)
+            (table [] self.now.count.now) self.now.place self.now.code)
+            (length (moves (M.graph self.now.map.now) self.now.place)) }
     {
         (0..self.moves()).any(|k| self.ahead(k) != 0)
     }
 
     // Whether the place gets a count from the counts where its moves lead, at the same code.
+    #[tactic(auto, using(crate::proofs::Moves::attracted_told))]
     fn attracts(&self) -> bool
         ensures { result ≡ attracted (M.graph self.now.map.now) self.now.place
             (λ t. entry (D.rule self.now.duty.now).codes self.now.count.now t self.now.code) }
@@ -160,7 +162,8 @@ impl<'a, M: Map, D: Duty> Position<'a, M, D> {
             .min()
     }
 
-    // The move that finished counts ask for, if they ask for one.
+    // The move that finished counts ask for, if they ask for one. That they are finished is asked here and by the two that lead
+    // here: the counts so far are lists of the same type, and only the end of the rounds tells them apart.
     pub(crate) fn planned(&self) -> Option<u8>
         requires { Finished (M.graph self.now.map.now) (D.rule self.now.duty.now)
             self.now.count.now }

@@ -6,19 +6,20 @@ ghost use Rattle.solver.specs.Rows.{Rows};
 pub(crate) fn index(codes: u8, v: u8, c: u8) -> usize
     ensures { result ≡ v * codes + c }
 {
-    v as usize * codes as usize + c as usize
+    usize::from(v) * usize::from(codes) + usize::from(c)
 }
 
-// Gives each entry of a table the value that `entry` answers of its place, its code and what it held. Each row is lent by its
-// bounds: of a chunk of `chunks_exact_mut` the proof knows no value after it was lent.
+// Gives each entry of a table the value that `entry` answers of its place, its code and what it held. Each row is filled as a
+// part of the whole: a rule of tables. It is lent by its bounds, since of a chunk of `chunks_exact_mut` the proof knows no value
+// after it was lent.
 pub(crate) fn fill<T: Copy, F: Fn(u8, u8, T) -> T>(places: u8, codes: u8, table: &mut [T], entry: F)
     requires callable { (v c : ℕ) (x : T) → v < places → c < codes → F.pre entry v c x }
     requires whole { length table.old ≡ places * codes }
     ensures { Rows places codes (λ v c x y. F.post entry v c x y) table.old table.new }
 {
-    let width = codes as usize;
+    let width = usize::from(codes);
     for v in 0..places {
-        let at = v as usize * width;
+        let at = usize::from(v) * width;
         fill_row(v, &mut table[at..at + width], &entry);
     }
 }
