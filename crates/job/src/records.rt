@@ -98,6 +98,7 @@ impl<'a> Line<'a> {
 
     // A line by the four fields after its keyword. No kind has more than three: a fourth is one too many.
     fn after(keyword: Keyword, fields: [Option<&'a [u8]>; 4]) -> Option<Line<'a>>
+        requires { (fs : List (List ℕ)) × (map seen fields ≡ padded 4 fs) }
         ensures { (fs : List (List ℕ)) → map seen fields.entry ≡ padded 4 fs → option_map shown_line result ≡ kind_by keyword fs }
     {
         match (keyword, fields) {
