@@ -7,7 +7,7 @@ use crate::position::Position;
 use crate::rows::{fill, index};
 use game::{Duty, Map, position_count};
 
-// 1 if the next round counts a position, and else 0. It takes a position's parts, as plan_byte does.
+// 1 if the next round counts a position, and else 0. It takes a position's parts, for the reason at planning's plan_byte.
 fn flag<M: Map, D: Duty>(map: &M, duty: &D, count: &[u16], place: u8, code: u8) -> u8
     requires room { positions (M.graph map.now) (D.rule duty.now) ≤ length count.now }
     requires on { place < (M.graph map.now).size }
@@ -26,8 +26,8 @@ fn settled(r: u16, flag: u8, n: u16) -> u16
 
 // One round after those done, and whether it gave anything. First every position that is due is flagged by 1, by the counts
 // as they stand, and the others by 0; then what is flagged is given the round's number. So no round reads a count that it
-// has given. The plan buffer holds the flags, since no plan is written yet. The two tables are no struct: one that holds lent
-// buffers has to say in each clause which buffers it ends with, which is longer than their two lengths.
+// has given. The plan buffer holds the flags, since no plan is written yet. The two tables are no struct: each function that
+// takes a struct of lent buffers has to promise that it holds the same buffers after, which is more to say than two lengths.
 fn count_round<M: Map, D: Duty>(
     map: &M,
     duty: &D,
