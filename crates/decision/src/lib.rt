@@ -42,7 +42,7 @@ impl From<Refusal> for Declined {
     }
 }
 
-// A refusal is told by three numbers, and 0 is what it says where there is none: so the three are no enum and no Option.
+// A refusal is told by three numbers, with 0 for no line and no field: so they are no enum and no Option.
 impl Declined {
     pub fn number(self) -> u8
         ensures { result ≡ number_of self }
@@ -123,8 +123,8 @@ fn decide_in(
 }
 
 // Writes the listing of the text's job at the start of the space and answers its length; or declines, and the space is
-// as it was. A text's fault comes before a space that is too small. The space is lent and the tables are arrays: the C
-// call has no allocator, and hands in a space and takes a length.
+// as it was. A text's fault comes before a space that is too small. The space is lent and the tables are arrays: the
+// call is to be made from C too, where there is no allocator, so a space comes in and a length goes out.
 pub fn decide(text: &[u8], space: &mut [u8]) -> Result<usize, Declined>
     ensures { MatchResult result
         (Decides text.now space.old space.new)

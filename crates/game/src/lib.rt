@@ -128,7 +128,7 @@ pub trait Duty {
 }
 
 // How many positions there are: places times codes, at most 31,872. Calls take a map and a duty as two: no fact ties them, and
-// a struct of two references would be made at each call and taken apart behind it.
+// a struct of two references would be made at each call and taken apart inside.
 pub fn position_count<M: Map, D: Duty>(map: &M, duty: &D) -> u16
     ensures { result ≡ positions (M.graph map.now) (D.rule duty.now) }
 {

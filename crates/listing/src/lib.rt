@@ -62,7 +62,7 @@ fn place_line(v: u8, count: u16) -> Line
 }
 
 // The counts of a game's table: one at least for each position. It is the crate's own, as the solver's Position is: a struct
-// that crates share would be public, and a public call asks nothing and would have to answer off the table too.
+// that crates share would be public, and public calls have no `requires` here, so it would need an answer for every number.
 #[derive(Drop)]
 struct Counts<'a, M: Map, D: Duty> {
     map: &'a M,
@@ -72,7 +72,7 @@ struct Counts<'a, M: Map, D: Duty> {
 }
 
 impl<M: Map, D: Duty> Counts<'_, M, D> {
-    // A place's count: that of its position with the start code. 0 says that there is none: so the table has it.
+    // A place's count: that of its position with the start code. 0 where it has none, as the table holds it.
     fn of_place(&self, v: u8) -> u16
         requires { v < (M.graph self.now.map.now).size }
         ensures { result ≡ place_count
@@ -81,7 +81,7 @@ impl<M: Map, D: Duty> Counts<'_, M, D> {
         self.count[usize::from(v) * usize::from(self.duty.codes()) + usize::from(self.duty.start())]
     }
 
-    // How many places the house is given.
+    // How many places the house is given: a byte, since a map has at most 128 places.
     fn houses(&self) -> u8
         ensures { result ≡ house_places
             (M.graph self.now.map.now) (D.rule self.now.duty.now) (table [] self.now.count.now)
@@ -109,7 +109,7 @@ impl<M: Map, D: Duty> Counts<'_, M, D> {
 }
 
 // Writes the listing of the counts at the start of the space and answers its length; or refuses and changes nothing.
-// The space is lent: the C call has no allocator, and hands in a space and takes a length.
+// The space is lent: the call is to be made from C too, where there is no allocator, so a space comes in and a length goes out.
 pub fn write_listing<M: Map, D: Duty>(
     map: &M,
     duty: &D,

@@ -7,7 +7,6 @@ use Rattle.std.proofs.lemmas.List.FromFn.{length-map-range_with_len, get_or-map-
 use Rattle.std.proofs.lemmas.List.Folds.{list_all-map}
 use Rattle.game.specs.Graph.{Graph, moves}
 use Rattle.game.specs.Rounds.{counted, attracted}
-use Rattle.solver.specs.Moves.{all_counted, some_counted}
 use Rattle.solver.specs.Rounds.{gains}
 
 -- a list, read at each of its indices
@@ -29,7 +28,9 @@ any_read p xs = sym (any_map p (λ k. get_or xs k 0) (range_with_len 0 (length x
 
 -- a place is counted by its moves' numbers as by the places where they lead
 pub attracted_told : (g : Graph) (v : ℕ) (at : ℕ → ℕ) → attracted g v at
-    ≡ cond (g.house v) (all_counted (λ k. at (get_or (moves g v) k 0)) (length (moves g v))) (some_counted (λ k. at (get_or (moves g v) k 0)) (length (moves g v)))
+    ≡ cond (g.house v)
+    (list_all (λ k. counted (at (get_or (moves g v) k 0))) (range_with_len 0 (length (moves g v))))
+    (list_any (λ k. counted (at (get_or (moves g v) k 0))) (range_with_len 0 (length (moves g v))))
 attracted_told g v at =
     let all = all_read (λ t. counted (at t)) (moves g v) in
     let any = any_read (λ t. counted (at t)) (moves g v) in

@@ -5,13 +5,13 @@ use Rattle.std.proofs.lemmas.Bool.{both_ways}
 use Rattle.game.specs.Graph.{Graph, Fit, moves}
 use Rattle.game.specs.Rule.{Rule, Lawful}
 use Rattle.game.specs.Rounds.{positions}
-use Rattle.game.specs.Table.{entry, table, move_count, LowestZero, LowestLeast}
+use Rattle.game.specs.Table.{entry, table, LowestZero, LowestLeast}
 use Rattle.game.proofs.Moves.{moves_inside}
 use Rattle.game.proofs.Rounds.{small, live_test, born, house_false, guest_true, given_later}
 use Rattle.game.proofs.Ends.{stable}
-use Rattle.solver.specs.Moves.{lowest, least}
+use Rattle.solver.specs.Moves.{ahead, lowest, least}
 use Rattle.solver.specs.Rounds.{Finished}
-use Rattle.solver.proofs.Searches.{lowest_none, lowest_some, least_none, least_some}
+use Rattle.solver.proofs.Searches.{first_none, first_some, smallest_none, smallest_some}
 use Rattle.solver.specs.Solve.{FitPlan}
 
 same_answer : (o : Option ℕ) (e f : ℕ) → o ≡ Some e → o ≡ Some f → e ≡ f
@@ -19,21 +19,21 @@ same_answer o e f p q = cc
 
 module _ (g : Graph) (d : Rule) (fit : Fit g) (lawful : Lawful d) (count : List ℕ) (counts : Finished g d count) (v c e : ℕ)
     (lv : v < g.size) (lc : c < d.codes) (step : d.step c (g.mark v) ≡ Some e) where
-  abbrev ahead : ℕ → ℕ
-  ahead = move_count g d (table [] count) v e
+  abbrev at : ℕ → ℕ
+  at = ahead g d count v e
 
   -- a house place without a count has a move to one
-  some_zero : g.house v ≡ true → entry d.codes count v c ≡ 0 → (k : ℕ) × (k < length (moves g v)) × (ahead k ≡ 0)
+  some_zero : g.house v ≡ true → entry d.codes count v c ≡ 0 → (k : ℕ) × (k < length (moves g v)) × (at k ≡ 0)
   some_zero house z =
       let next = stable g d fit lawful (suc (positions g d)) v c lv lc (sym (counts v c lv lc) ∙ z) in
       let way = house_false g d (positions g d) v e house (live_test g d (positions g d) v c e step next) in
       (way.0, way.1, counts _ e (moves_inside g fit v way.0 lv way.1) (lawful.settled c (g.mark v) e step).2 ∙ way.2)
 
   -- a guest place with a count above 1 has a move to a count
-  some_counted : g.house v ≡ false → 1 < entry d.codes count v c → (k : ℕ) × (k < length (moves g v)) × (0 < ahead k)
+  some_counted : g.house v ≡ false → 1 < entry d.codes count v c → (k : ℕ) × (k < length (moves g v)) × (0 < at k)
   some_counted guest more = go (entry d.codes count v c) refl
     where
-      go : (x : ℕ) → entry d.codes count v c ≡ x → (k : ℕ) × (k < length (moves g v)) × (0 < ahead k)
+      go : (x : ℕ) → entry d.codes count v c ≡ x → (k : ℕ) × (k < length (moves g v)) × (0 < at k)
       go zero z = absurd (omega arith)
       go (suc r) is =
           let way = guest_true g d r v e guest (born g d (positions g d) v c e r step (sym (counts v c lv lc) ∙ is)) in
@@ -41,13 +41,13 @@ module _ (g : Graph) (d : Rule) (fit : Fit g) (lawful : Lawful d) (count : List 
           (way.0, way.1, omega (arith, way.2, stays, counts _ e (moves_inside g fit v way.0 lv way.1) (lawful.settled c (g.mark v) e step).2))
 
   pub planned_house : g.house v ≡ true → entry d.codes count v c ≡ 0
-      → FitPlan g d count v c (unwrap_or (lowest ahead (length (moves g v)) 0) 8)
-  planned_house house z = go (lowest ahead (length (moves g v)) 0) refl
+      → FitPlan g d count v c (unwrap_or (lowest g d count v e 0) 8)
+  planned_house house z = go (lowest g d count v e 0) refl
     where
-      go : (o : Option ℕ) → lowest ahead (length (moves g v)) 0 ≡ o → FitPlan g d count v c (unwrap_or o 8)
-      go None is = let way = some_zero house z in absurd (lowest_none ahead (length (moves g v)) 0 is way.0 way.1 way.2)
+      go : (o : Option ℕ) → lowest g d count v e 0 ≡ o → FitPlan g d count v c (unwrap_or o 8)
+      go None is = let way = some_zero house z in absurd (first_none at (length (moves g v)) 0 is way.0 way.1 way.2)
       go (Some k) is =
-          let low = lowest_some ahead (length (moves g v)) 0 k is in
+          let low = first_some at (length (moves g v)) 0 k is in
           record {
             holds = λ e' step' house' z'. subst (λ (x : ℕ). LowestZero g d (table [] count) v x k) (same_answer _ e e' step step') (low.0, low.1, λ j lj. omega (arith, low.2 j lj));
             attacks = λ e' step' guest. absurd (both_ways (g.house v) guest house);
@@ -55,15 +55,15 @@ module _ (g : Graph) (d : Rule) (fit : Fit g) (lawful : Lawful d) (count : List 
             waits_guest = λ guest. absurd (both_ways (g.house v) guest house);
           }
 
-  pub planned_guest : (n : ℕ) → g.house v ≡ false → 1 < entry d.codes count v c → least ahead (length (moves g v)) ≡ Some n
-      → FitPlan g d count v c (unwrap_or (lowest ahead (length (moves g v)) n) 8)
-  planned_guest n guest more smallest = go (lowest ahead (length (moves g v)) n) refl
+  pub planned_guest : (n : ℕ) → g.house v ≡ false → 1 < entry d.codes count v c → least g d count v e ≡ Some n
+      → FitPlan g d count v c (unwrap_or (lowest g d count v e n) 8)
+  planned_guest n guest more smallest = go (lowest g d count v e n) refl
     where
-      go : (o : Option ℕ) → lowest ahead (length (moves g v)) n ≡ o → FitPlan g d count v c (unwrap_or o 8)
-      go None is = let least = least_some ahead (length (moves g v)) n smallest in absurd (lowest_none ahead (length (moves g v)) n is least.1.0 least.1.1 least.1.2)
+      go : (o : Option ℕ) → lowest g d count v e n ≡ o → FitPlan g d count v c (unwrap_or o 8)
+      go None is = let least = smallest_some at (length (moves g v)) n smallest in absurd (first_none at (length (moves g v)) n is least.1.0 least.1.1 least.1.2)
       go (Some k) is =
-          let least = least_some ahead (length (moves g v)) n smallest in
-          let low = lowest_some ahead (length (moves g v)) n k is in
+          let least = smallest_some at (length (moves g v)) n smallest in
+          let low = first_some at (length (moves g v)) n k is in
           record {
             holds = λ e' step' house. absurd (both_ways (g.house v) guest house);
             attacks = λ e' step' guest' more'. subst (λ (x : ℕ). LowestLeast g d (table [] count) v x k) (same_answer _ e e' step step') (
@@ -76,5 +76,5 @@ module _ (g : Graph) (d : Rule) (fit : Fit g) (lawful : Lawful d) (count : List 
             waits_guest = λ guest' one. absurd (omega arith);
           }
 
-  pub planned_none : g.house v ≡ false → 1 < entry d.codes count v c → least ahead (length (moves g v)) ≡ None → ⊥
-  planned_none guest more none = let way = some_counted guest more in omega (arith, way.2, least_none ahead (length (moves g v)) none way.0 way.1)
+  pub planned_none : g.house v ≡ false → 1 < entry d.codes count v c → least g d count v e ≡ None → ⊥
+  planned_none guest more none = let way = some_counted guest more in omega (arith, way.2, smallest_none at (length (moves g v)) none way.0 way.1)

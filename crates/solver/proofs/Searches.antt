@@ -4,7 +4,6 @@ use Rattle.std.specs.Prelude.{MatchOption, filter, find, ◌≢◌}
 use Rattle.std.specs.List.{fold, reduce, range_with_len}
 use Rattle.std.proofs.lemmas.Bool.{cond-true, cond-false, cases_Bool, cases_lt, eqb-true, eqb-false}
 use Rattle.std.proofs.Math.Nat.{min-eq_left, min-eq_right}
-use Rattle.solver.specs.Moves.{lowest, least}
 
 -- a place from a on is a later one, or a itself
 later_or_here : (a k : ℕ) → a ≤ k → (a + 1 ≤ k) ⊎ (k ≡ a)
@@ -114,21 +113,21 @@ module _ (ahead : ℕ → ℕ) where
       ))
       (cases_Bool (eqb (ahead a) 0))
 
--- the lowest move to a count of n, and the smallest count above 0, are what they are called
-pub lowest_none : (ahead : ℕ → ℕ) (moves n : ℕ) → lowest ahead moves n ≡ None → (k : ℕ) → k < moves → ahead k ≢ n
-lowest_none ahead moves n is k lk = subst (Finds ahead n 0 moves) is (finds ahead n 0 moves moves (omega arith)) k (omega arith) lk
+-- the first number of n places that gives x, and the smallest above 0, are what they are called
+pub first_none : (ahead : ℕ → ℕ) (n x : ℕ) → find (λ k. eqb (ahead k) x) (range_with_len 0 n) ≡ None → (k : ℕ) → k < n → ahead k ≢ x
+first_none ahead n x is k lk = subst (Finds ahead x 0 n) is (finds ahead x 0 n n (omega arith)) k (omega arith) lk
 
-pub lowest_some : (ahead : ℕ → ℕ) (moves n k : ℕ) → lowest ahead moves n ≡ Some k
-    → (k < moves) × (ahead k ≡ n) × ((j : ℕ) → j < k → ahead j ≢ n)
-lowest_some ahead moves n k is =
-    let found = subst (Finds ahead n 0 moves) is (finds ahead n 0 moves moves (omega arith)) in
+pub first_some : (ahead : ℕ → ℕ) (n x k : ℕ) → find (λ j. eqb (ahead j) x) (range_with_len 0 n) ≡ Some k
+    → (k < n) × (ahead k ≡ x) × ((j : ℕ) → j < k → ahead j ≢ x)
+first_some ahead n x k is =
+    let found = subst (Finds ahead x 0 n) is (finds ahead x 0 n n (omega arith)) in
     (found.0, found.1, λ j lj. found.2 j (omega arith) lj)
 
-pub least_none : (ahead : ℕ → ℕ) (moves : ℕ) → least ahead moves ≡ None → (k : ℕ) → k < moves → ahead k ≡ 0
-least_none ahead moves is k lk = subst (Tells ahead 0 moves) is (smallest ahead 0 moves moves (omega arith)) k (omega arith) lk
+pub smallest_none : (ahead : ℕ → ℕ) (n : ℕ) → reduce min (some ahead 0 n) ≡ None → (k : ℕ) → k < n → ahead k ≡ 0
+smallest_none ahead n is k lk = subst (Tells ahead 0 n) is (smallest ahead 0 n n (omega arith)) k (omega arith) lk
 
-pub least_some : (ahead : ℕ → ℕ) (moves n : ℕ) → least ahead moves ≡ Some n
-    → (0 < n) × ((k : ℕ) × (k < moves) × (ahead k ≡ n)) × ((k : ℕ) → k < moves → 0 < ahead k → n ≤ ahead k)
-least_some ahead moves n is =
-    let told = subst (Tells ahead 0 moves) is (smallest ahead 0 moves moves (omega arith)) in
+pub smallest_some : (ahead : ℕ → ℕ) (n x : ℕ) → reduce min (some ahead 0 n) ≡ Some x
+    → (0 < x) × ((k : ℕ) × (k < n) × (ahead k ≡ x)) × ((k : ℕ) → k < n → 0 < ahead k → x ≤ ahead k)
+smallest_some ahead n x is =
+    let told = subst (Tells ahead 0 n) is (smallest ahead 0 n n (omega arith)) in
     (told.0, told.1, λ k lk some. told.2 k (omega arith) lk some)

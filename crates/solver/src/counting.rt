@@ -62,7 +62,8 @@ fn count_round<M: Map, D: Duty>(
     flags.contains(&1)
 }
 
-// The counts, by rounds up to the first that gives nothing. The loop counts rounds, and no index: each is told its number.
+// The counts, by rounds up to the first that gives nothing. The loop counts rounds, and no index: each round writes
+// its number.
 #[tactic(auto, using(crate::proofs::Round::given_none))]
 pub(crate) fn count_all<M: Map, D: Duty>(map: &M, duty: &D, plan: &mut [u8], count: &mut [u16])
     requires plans { length plan.old ≡ positions (M.graph map.now) (D.rule duty.now) }

@@ -11,8 +11,8 @@ use game::{Duty, Map};
 // A plan byte that names no way. A lent table holds bytes, so None is told by a number there.
 const NO_WAY: u8 = 8;
 
-// The plan byte that finished counts ask for at a position. It takes a position's parts: a closure that made the position
-// itself would have to state these same clauses.
+// The plan byte that finished counts ask for at a position. It takes a position's parts, so that the closure
+// below is one call and needs no clauses: one that made the Position itself would have to state these.
 fn plan_byte<M: Map, D: Duty>(map: &M, duty: &D, count: &[u16], place: u8, code: u8) -> u8
     requires room { positions (M.graph map.now) (D.rule duty.now) ≤ length count.now }
     requires on { place < (M.graph map.now).size }

@@ -1,10 +1,10 @@
 // A position of a game, and what the counts of all positions say of it.
-ghost use Rattle.std.specs.Prelude.{◌≡◌, ◌<◌, ◌≤◌, [], length};
+ghost use Rattle.std.specs.Prelude.{◌≡◌, ◌<◌, ◌≤◌, length};
 ghost use Rattle.std.specs.Option.{unwrap_or};
 ghost use Rattle.game.specs.Graph.{moves};
 ghost use Rattle.game.specs.Rounds.{positions, attracted};
-ghost use Rattle.game.specs.Table.{entry, move_count, table};
-ghost use Rattle.solver.specs.Moves.{all_counted, some_counted, lowest, least};
+ghost use Rattle.game.specs.Table.{entry};
+ghost use Rattle.solver.specs.Moves.{ahead, all_counted, some_counted, lowest, least};
 ghost use Rattle.solver.specs.Rounds.{gains_at, is_due, Finished};
 ghost use Rattle.solver.specs.Solve.{FitPlan};
 
@@ -63,7 +63,7 @@ impl<'a, M: Map, D: Duty> Position<'a, M, D> {
         Position::new(self.map, self.duty, self.count, place, code)
     }
 
-    // 0 says that there is none: so the table has it, and it is compared as it stands.
+    // 0 where the position has none: the table holds it so, and it is compared as it stands.
     fn count(&self) -> u16
         ensures { result ≡ entry (D.rule self.now.duty.now).codes self.now.count.now
             self.now.place self.now.code }
@@ -81,28 +81,24 @@ impl<'a, M: Map, D: Duty> Position<'a, M, D> {
     // The count where move k leads, at the same code.
     fn ahead(&self, k: u8) -> u16
         requires { k < length (moves (M.graph self.now.map.now) self.now.place) }
-        ensures { result ≡ move_count (M.graph self.now.map.now) (D.rule self.now.duty.now)
-            (table [] self.now.count.now) self.now.place self.now.code k }
+        ensures { result ≡ ahead (M.graph self.now.map.now) (D.rule self.now.duty.now)
+            self.now.count.now self.now.place self.now.code k }
     {
         self.at(self.map.way(self.place, k), self.code).count()
     }
 
     // Whether all moves lead to counted positions.
     fn all_counted(&self) -> bool
-        ensures { result ≡ all_counted
-            (move_count (M.graph self.now.map.now) (D.rule self.now.duty.now)
-            (table [] self.now.count.now) self.now.place self.now.code)
-            (length (moves (M.graph self.now.map.now) self.now.place)) }
+        ensures { result ≡ all_counted (M.graph self.now.map.now) (D.rule self.now.duty.now)
+            self.now.count.now self.now.place self.now.code }
     {
         (0..self.moves()).all(|k| self.ahead(k) != 0)
     }
 
     // Whether some move leads to a counted position.
     fn some_counted(&self) -> bool
-        ensures { result ≡ some_counted
-            (move_count (M.graph self.now.map.now) (D.rule self.now.duty.now)
-            (table [] self.now.count.now) self.now.place self.now.code)
-            (length (moves (M.graph self.now.map.now) self.now.place)) }
+        ensures { result ≡ some_counted (M.graph self.now.map.now) (D.rule self.now.duty.now)
+            self.now.count.now self.now.place self.now.code }
     {
         (0..self.moves()).any(|k| self.ahead(k) != 0)
     }
@@ -140,21 +136,16 @@ impl<'a, M: Map, D: Duty> Position<'a, M, D> {
 
     // The lowest move to a count of n, at the same code.
     fn lowest(&self, n: u16) -> Option<u8>
-        ensures { result ≡ lowest
-            (move_count (M.graph self.now.map.now) (D.rule self.now.duty.now)
-            (table [] self.now.count.now) self.now.place self.now.code)
-            (length (moves (M.graph self.now.map.now) self.now.place))
-            n }
+        ensures { result ≡ lowest (M.graph self.now.map.now) (D.rule self.now.duty.now)
+            self.now.count.now self.now.place self.now.code n }
     {
         (0..self.moves()).find(|k| self.ahead(*k) == n)
     }
 
     // The smallest count above 0 to which a move leads, at the same code.
     fn least(&self) -> Option<u16>
-        ensures { result ≡ least
-            (move_count (M.graph self.now.map.now) (D.rule self.now.duty.now)
-            (table [] self.now.count.now) self.now.place self.now.code)
-            (length (moves (M.graph self.now.map.now) self.now.place)) }
+        ensures { result ≡ least (M.graph self.now.map.now) (D.rule self.now.duty.now)
+            self.now.count.now self.now.place self.now.code }
     {
         (0..self.moves())
             .map(|k| self.ahead(k))
@@ -162,8 +153,8 @@ impl<'a, M: Map, D: Duty> Position<'a, M, D> {
             .min()
     }
 
-    // The move that finished counts ask for, if they ask for one. That they are finished is asked here and by the two that lead
-    // here: the counts so far are lists of the same type, and only the end of the rounds tells them apart.
+    // The move that finished counts ask for, if they ask for one. `Finished` is asked here, in plan_byte and in plan_all, and is
+    // no type: unfinished counts are the same lent buffer, and only the end of count_all tells them apart.
     pub(crate) fn planned(&self) -> Option<u8>
         requires { Finished (M.graph self.now.map.now) (D.rule self.now.duty.now)
             self.now.count.now }

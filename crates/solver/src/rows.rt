@@ -9,9 +9,8 @@ pub(crate) fn index(codes: u8, v: u8, c: u8) -> usize
     usize::from(v) * usize::from(codes) + usize::from(c)
 }
 
-// Gives each entry of a table the value that `entry` answers of its place, its code and what it held. Each row is filled as a
-// part of the whole: a rule of tables. It is lent by its bounds, since of a chunk of `chunks_exact_mut` the proof knows no value
-// after it was lent.
+// Gives each entry of a table the value that `entry` answers of its place, its code and what it held. Each row is lent by its
+// bounds as a part of the whole table: of a chunk of `chunks_exact_mut` the proof knows no value after the loan.
 pub(crate) fn fill<T: Copy, F: Fn(u8, u8, T) -> T>(places: u8, codes: u8, table: &mut [T], entry: F)
     requires callable { (v c : ℕ) (x : T) → v < places → c < codes → F.pre entry v c x }
     requires whole { length table.old ≡ places * codes }
@@ -24,7 +23,7 @@ pub(crate) fn fill<T: Copy, F: Fn(u8, u8, T) -> T>(places: u8, codes: u8, table:
     }
 }
 
-// The same for the row of place v.
+// The same for the row of place v, which is as wide as there are codes, so that an index in it is a byte.
 fn fill_row<T: Copy, F: Fn(u8, u8, T) -> T>(v: u8, row: &mut [T], entry: &F)
     requires callable { (c : ℕ) (x : T) → c < length row.old → F.pre entry.now v c x }
     requires width { length row.old < 256 }
