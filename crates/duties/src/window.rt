@@ -8,8 +8,7 @@ ghost use Rattle.meanings.proofs.Windows.{window_lawful};
 
 use game::{Duty, Refusal, is_odd};
 
-// The code that says that no window is open. A code is a number: it says where in a
-// table's row an entry stands.
+// The code that says that no window is open. A code is a number: it says where in a table's row an entry stands.
 const CLOSED: u8 = 0;
 
 #[derive(Clone, Copy, Debug, PartialEq, Eq)]

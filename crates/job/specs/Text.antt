@@ -57,10 +57,10 @@ abbrev pub Cleans : List (List ℕ) → Type 0
 Cleans [] = Unit {0}
 Cleans (l ∷ ls) = Clean l × Cleans ls
 
--- the fields of a line: it is cut at each comma
+-- the fields of a line: it is cut at each comma, so a line without one is one field, and an empty line one empty field
 abbrev pub fields : List ℕ → List (List ℕ)
 fields l = slice_split (λ b. b == comma) l
 
--- fields joined by commas
+-- fields joined by commas, one between each two
 abbrev pub joined : List (List ℕ) → List ℕ
 joined fs = join_with_byte comma fs

@@ -18,6 +18,13 @@ use maps::Queue;
 // The bound of a duty whose line leaves it out.
 const DEFAULT_BOUND: u8 = 8;
 
+// The fields of a duty's line, and of a queue's; the keyword is field 1.
+const WORD: u8 = 2;
+
+const BOUND: u8 = 3;
+
+const CAPACITY: u8 = 2;
+
 // What is due, with what has come.
 #[derive(Clone, Copy)]
 pub(crate) enum Phase {
@@ -105,18 +112,18 @@ fn duty_record(line: usize, word: &[u8], bound: Option<&[u8]>) -> Result<Window,
     let DutyWord::Window = Field {
         text: word,
         line,
-        number: 2,
+        number: WORD,
     }
     .duty_word()?;
     let number = match bound {
         Some(text) => small_number(Field {
             text,
             line,
-            number: 3,
+            number: BOUND,
         })?,
         None => DEFAULT_BOUND,
     };
-    Window::new(number).map_err(|_| JobFault::OutOfRange { line, field: 3 })
+    Window::new(number).map_err(|_| JobFault::OutOfRange { line, field: BOUND })
 }
 
 // A queue's field. The limits of its capacity are the queue's own. Two records and no generic one: a duty's line has a word
@@ -127,7 +134,10 @@ fn queue_record(line: usize, capacity: &[u8]) -> Result<Queue, JobFault>
     let number = small_number(Field {
         text: capacity,
         line,
-        number: 2,
+        number: CAPACITY,
     })?;
-    Queue::new(number).map_err(|_| JobFault::OutOfRange { line, field: 2 })
+    Queue::new(number).map_err(|_| JobFault::OutOfRange {
+        line,
+        field: CAPACITY,
+    })
 }

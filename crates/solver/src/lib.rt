@@ -15,7 +15,7 @@ use game::{Duty, Map, Refusal, position_count};
 use planning::plan_all;
 
 // Fills a plan byte and a count for each position, or refuses for want of room and changes nothing.
-// The table is two lent buffers and not a list of pairs: where a C call runs it there is no allocator.
+// The table is two lent buffers and not a list of pairs: the call is to run from C too, where there is no allocator.
 pub fn solve<M: Map, D: Duty>(
     map: &M,
     duty: &D,
