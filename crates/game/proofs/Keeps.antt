@@ -24,6 +24,30 @@ module _ (g : Graph) (d : Rule) (t : Table) where
     pub some : 0 < count_of w
     pub few : count_of w + length w ≤ n + 1
 
+  -- from a count of 0, every guest move and the plan's house move lead to a count of 0
+  pub safe_move : (v c e k : ℕ) → Obeys g d t v c → count_at g d t v c ≡ 0 → d.step c (g.mark v) ≡ Some e → k < length (moves g v) → (g.house v ≡ true → k ≡ plan_at g d t v c) → move_count g d t v e k ≡ 0
+  safe_move v c e k obeys z step l same =
+      ⊎_elim
+      (λ house. rw (same house) (obeys.safe_house e step z house).1)
+      (λ guest. (obeys.safe_guest e step z guest).1 k l)
+      (cases_Bool (g.house v))
+
+  -- from a count above 0, every house move and the plan's guest move lead to a smaller one above 0
+  pub lost_move : (v c e k : ℕ) → Obeys g d t v c → 0 < count_at g d t v c → d.step c (g.mark v) ≡ Some e → k < length (moves g v) → (g.house v ≡ false → k ≡ plan_at g d t v c) → (0 < move_count g d t v e k) × (move_count g d t v e k < count_at g d t v c)
+  lost_move v c e k obeys some step l same =
+      ⊎_elim
+      (λ house. (obeys.lost_house e step some house).1 k l)
+      (λ guest. let told = obeys.lost_guest e step some guest in rw (same guest) (told.1, told.2))
+      (cases_Bool (g.house v))
+
+  -- a position with a count above 0 that is not broken has one above 1
+  pub not_last : (v c e : ℕ) → Obeys g d t v c → 0 < count_at g d t v c → d.step c (g.mark v) ≡ Some e → 1 < count_at g d t v c
+  not_last v c e obeys some step =
+      ⊎_elim
+      (λ house. let told = (obeys.lost_house e step some house).1 0 (moves_some g v) in omega arith)
+      (λ guest. let told = obeys.lost_guest e step some guest in omega arith)
+      (cases_Bool (g.house v))
+
   -- the plan that a table gives a side: the plan byte's move, or where it names none, the last one
   abbrev table_plan : (side : Bool) → Plan g side
   table_plan side = record {
@@ -38,42 +62,27 @@ module _ (g : Graph) (d : Rule) (t : Table) where
     count_grows : (w : List ℕ) (e k : ℕ) → On g d w → step_at g d w ≡ Some e → k < length (moves g (last w)) → count_of (onto g w k) ≡ move_count g d t (last w) e k
     count_grows w e k on step l = rw (push_last w _, (on_grows g d fit lawful w e k on step l).1)
 
-    -- from a count of 0, every guest move and the plan's house move lead to a count of 0
+    -- a walk that stands on a count of 0 comes to another by every guest move and by the plan's house move
     pub safe_grows : (w : List ℕ) (e k : ℕ) → On g d w → count_of w ≡ 0 → step_at g d w ≡ Some e → k < length (moves g (last w)) → (g.house (last w) ≡ true → k ≡ byte_of w) → count_of (onto g w k) ≡ 0
-    safe_grows w e k on z step l same =
-        let obeys = obeys_at w on in
-        count_grows w e k on step l
-        ∙ ⊎_elim
-        (λ house. rw (same house) (obeys.safe_house e step z house).1)
-        (λ guest. (obeys.safe_guest e step z guest).1 k l)
-        (cases_Bool (g.house (last w)))
+    safe_grows w e k on z step l same = count_grows w e k on step l ∙ safe_move _ _ e k (obeys_at w on) z step l same
 
     pub safe_end : (w : List ℕ) → On g d w → count_of w ≡ 0 → Broken g d w → ⊥
     safe_end w on z broken =
         ⊎_elim (λ none. (obeys_at w on).safe z none.0) (λ live. live.2 broken) (standing g d fit lawful w on)
 
-    -- from a count above 0, every house move and the plan's guest move lead to a smaller one above 0
+    -- a walk that is chased stays so by every house move and by the plan's guest move
     pub chased_grows : (n : ℕ) (w : List ℕ) (e k : ℕ) → On g d w → Chased n w → step_at g d w ≡ Some e → k < length (moves g (last w)) → (g.house (last w) ≡ false → k ≡ byte_of w) → Chased n (onto g w k)
     chased_grows n w e k on chased step l same =
-        let obeys = obeys_at w on in
-        let told : (0 < move_count g d t (last w) e k) × (move_count g d t (last w) e k < count_of w) =
-        ⊎_elim
-        (λ house. (obeys.lost_house e step chased.some house).1 k l)
-        (λ guest. let told = obeys.lost_guest e step chased.some guest in rw (same guest) (told.1, told.2))
-        (cases_Bool (g.house (last w))) in
+        let told = lost_move _ _ e k (obeys_at w on) chased.some step l same in
         let count = count_grows w e k on step l in
         let long = length_push w in
         record { some = omega arith; few = omega arith }
 
     pub chased_end : (n : ℕ) (w : List ℕ) → On g d w → Chased n w → length w ≡ n → Broken g d w
     chased_end n w on chased long =
-        let obeys = obeys_at w on in
         ⊎_elim
         (λ none. none.1)
-        (λ live. absurd (⊎_elim
-        (λ house. let told = (obeys.lost_house live.0 live.1 chased.some house).1 0 (moves_some g (last w)) in omega arith)
-        (λ guest. let told = obeys.lost_guest live.0 live.1 chased.some guest in omega arith)
-        (cases_Bool (g.house (last w)))))
+        (λ live. absurd (omega (arith, not_last _ _ live.0 (obeys_at w on) chased.some live.1)))
         (standing g d fit lawful w on)
 
     start_count : (w : List ℕ) (v : ℕ) → first w ≡ v → count_of (first w ∷ []) ≡ place_count g d t v
