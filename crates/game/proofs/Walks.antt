@@ -19,7 +19,7 @@ push_last w x = get_or_push w x 0 (length (w ++ x ∷ []) - 1) (omega (arith, le
 pub take_one : (w : List ℕ) → 0 < length w → take 1 w ≡ first w ∷ []
 take_one w some = take-suc w 0 0 some
 
-last_take : (w : List ℕ) (i : ℕ) → i < length w → last (take (suc i) w) ≡ get_or w i 0
+pub last_take : (w : List ℕ) (i : ℕ) → i < length w → last (take (suc i) w) ≡ get_or w i 0
 last_take w i l =
     let long = length-take-le (suc i) w l in
     let at : length (take (suc i) w) - 1 ≡ i = omega arith in
@@ -83,6 +83,19 @@ module _ (g : Graph) where
           (cases_beq (g.house (last u)) side) in
           rw (take-suc w (suc i) 0 l, ← made.2) (walk_grows u made.0 held.0 made.1, more u made.0 held.0 held.1 made.1 made.3)
 
+  module _ (fit : Fit g) where
+    pub marks_fit : (w : List ℕ) → Marks (map g.mark w)
+    marks_fit [] i l = absurd (omega arith)
+    marks_fit (v ∷ w) zero l = fit.marks v
+    marks_fit (v ∷ w) (suc i) l = marks_fit w i (le_of_suc-le-suc l)
+
+    -- each place of a walk is on the map
+    pub walk_inside : (w : List ℕ) → Walk g w → (i : ℕ) → i < length w → get_or w i 0 < g.size
+    walk_inside w walk zero l = walk.inside
+    walk_inside w walk (suc i) l =
+        let joined = simp add-one at (walk.joined i (omega arith)) in
+        rw (← joined.1.1) (moves_inside g fit (get_or w i 0) joined.0 (walk_inside w walk i (omega arith)) joined.1.0)
+
 module _ (g : Graph) (d : Rule) where
   -- the marks before the last place of a walk
   abbrev pub before : List ℕ → List ℕ
@@ -108,29 +121,24 @@ module _ (g : Graph) (d : Rule) where
   before_push w x = ap (map g.mark) (take_at w (x ∷ []) _ (omega (arith, length_push w x)))
 
   module _ (fit : Fit g) (lawful : Lawful d) where
-    marks_fit : (w : List ℕ) → Marks (map g.mark w)
-    marks_fit [] i l = absurd (omega arith)
-    marks_fit (v ∷ w) zero l = fit.marks v
-    marks_fit (v ∷ w) (suc i) l = marks_fit w i (le_of_suc-le-suc l)
-
     -- what is broken before the last place is broken
     pub stays_broken : (w : List ℕ) → 0 < length w → d.Breaks (before w) → Broken g d w
     stays_broken w some lost =
         let split = marks_split w some in
-        rw (split, Broken) (lawful.longer (before w) _ (rw split at (marks_fit w)) lost)
+        rw (split, Broken) (lawful.longer (before w) _ (rw split at (marks_fit g fit w)) lost)
 
     pub on_one : (v : ℕ) → v < g.size → On (v ∷ [])
     on_one v l = record { some = omega arith; inside = l; unbroken = lawful.empty_unbroken; settled = rw lawful.empty_code lawful.begins }
 
     -- where the step answers a code, the walk is not broken, and its marks have that code
     pub goes : (w : List ℕ) (e : ℕ) → On w → step_at w ≡ Some e → (Broken g d w → ⊥) × (d.code (map g.mark w) ≡ e)
-    goes w e on step = rw (marks_split w on.some, Broken) (lawful.goes_on (before w) _ e (marks_fit (take _ w)) (fit.marks _) on.unbroken step)
+    goes w e on step = rw (marks_split w on.some, Broken) (lawful.goes_on (before w) _ e (marks_fit g fit (take _ w)) (fit.marks _) on.unbroken step)
 
     -- the step tells whether the walk is broken
     pub standing : (w : List ℕ) → On w → ((step_at w ≡ None) × Broken g d w) ⊎ ((e : ℕ) × (step_at w ≡ Some e) × (Broken g d w → ⊥))
     standing w on =
         ⊎_elim
-        (λ none. inl (none, rw (marks_split w on.some, Broken) (lawful.breaks (before w) _ (marks_fit (take _ w)) (fit.marks _) on.unbroken none)))
+        (λ none. inl (none, rw (marks_split w on.some, Broken) (lawful.breaks (before w) _ (marks_fit g fit (take _ w)) (fit.marks _) on.unbroken none)))
         (λ some. inr (some.0, some.1, (goes w some.0 on some.1).0))
         (cases_step (step_at w))
 
