@@ -68,7 +68,7 @@ module _ (g : Graph) (d : Rule) (t : Table) where
 
     pub safe_end : (w : List ℕ) → On g d w → count_of w ≡ 0 → Broken g d w → ⊥
     safe_end w on z broken =
-        ⊎_elim (λ none. (obeys_at w on).safe z none.0) (λ live. live.2 broken) (standing g d fit lawful w on)
+        ⊎_elim (λ none. (obeys_at w on).safe z none.0) (λ live. live.2 broken) (standing g d fit lawful w on.some on.unbroken)
 
     -- a walk that is chased stays so by every house move and by the plan's guest move
     pub chased_grows : (n : ℕ) (w : List ℕ) (e k : ℕ) → On g d w → Chased n w → step_at g d w ≡ Some e → k < length (moves g (last w)) → (g.house (last w) ≡ false → k ≡ byte_of w) → Chased n (onto g w k)
@@ -83,7 +83,7 @@ module _ (g : Graph) (d : Rule) (t : Table) where
         ⊎_elim
         (λ none. none.1)
         (λ live. absurd (omega (arith, not_last _ _ live.0 (obeys_at w on) chased.some live.1)))
-        (standing g d fit lawful w on)
+        (standing g d fit lawful w on.some on.unbroken)
 
     start_count : (w : List ℕ) (v : ℕ) → first w ≡ v → count_of (first w ∷ []) ≡ place_count g d t v
     start_count w v from = rw (from, lawful.empty_code)
@@ -99,7 +99,7 @@ module _ (g : Graph) (d : Rule) (t : Table) where
           (on_grows g d fit lawful w live.0 k on live.1 l).0,
           safe_grows w live.0 k on z live.1 l (λ house. omega (arith, same house, (obeys_at w on).safe_house live.0 live.1 z house)),
         ))
-        (standing g d fit lawful w on)
+        (standing g d fit lawful w on.some on.unbroken)
 
     pub keeps : (v : ℕ) → place_count g d t v ≡ 0 → HouseKeeps g d v
     keeps v z = (
@@ -123,7 +123,7 @@ module _ (g : Graph) (d : Rule) (t : Table) where
           (on_grows g d fit lawful w live.0 k on live.1 l).0,
           chased_grows n w live.0 k on chased live.1 l (λ guest. omega (arith, same guest, (obeys_at w on).lost_guest live.0 live.1 chased.some guest)),
         ))
-        (standing g d fit lawful w on)
+        (standing g d fit lawful w on.some on.unbroken)
 
     pub breaks_in : (v n : ℕ) → 0 < n → place_count g d t v ≡ n → GuestBreaks g d v n
     breaks_in v n some is = (

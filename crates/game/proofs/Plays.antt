@@ -88,7 +88,7 @@ module _ (g : Graph) (d : Rule) (fit : Fit g) (lawful : Lawful d) where
       let drawn = draw g (Alive plan.0 m) v (m - 1) l one (λ w walk low. alive_grows plan.0 m w walk (omega arith)) in
       let live = live_some g d _ _ _ drawn.holds.none in
       let broken = plan.1 drawn.line drawn.walk drawn.from drawn.holds.follows (omega (arith, drawn.long)) in
-      (goes g d fit lawful drawn.line live.0 drawn.holds.on live.1).0 broken
+      (goes g d fit lawful drawn.line live.0 drawn.holds.on.some drawn.holds.on.unbroken live.1).0 broken
 
   -- the house does not keep a duty that the guest breaks
   pub not_both : (v n : ℕ) → v < g.size → 0 < n → HouseKeeps g d v → GuestBreaks g d v n → ⊥

@@ -77,7 +77,7 @@ module _ (g : Graph) (d : Rule) (t : Table) (begin : ℕ) where
           ⊎_elim
           (λ broken. inl (held.ended ∙ ap says_broken broken.0, broken.1))
           (λ live. inr (live.0, live.1, held.ended ∙ ap says_broken live.1, live.2))
-          (standing g d fit lawful w held.on)
+          (standing g d fit lawful w held.on.some held.on.unbroken)
 
       held_kept : Kept g d t begin (trail w)
       held_kept = record {

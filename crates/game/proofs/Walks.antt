@@ -131,15 +131,15 @@ module _ (g : Graph) (d : Rule) where
     on_one v l = record { some = omega arith; inside = l; unbroken = lawful.empty_unbroken; settled = rw lawful.empty_code lawful.begins }
 
     -- where the step answers a code, the walk is not broken, and its marks have that code
-    pub goes : (w : List ℕ) (e : ℕ) → On w → step_at w ≡ Some e → (Broken g d w → ⊥) × (d.code (map g.mark w) ≡ e)
-    goes w e on step = rw (marks_split w on.some, Broken) (lawful.goes_on (before w) _ e (marks_fit g fit (take _ w)) (fit.marks _) on.unbroken step)
+    pub goes : (w : List ℕ) (e : ℕ) → 0 < length w → (d.Breaks (before w) → ⊥) → step_at w ≡ Some e → (Broken g d w → ⊥) × (d.code (map g.mark w) ≡ e)
+    goes w e some un step = rw (marks_split w some, Broken) (lawful.goes_on (before w) _ e (marks_fit g fit (take _ w)) (fit.marks _) un step)
 
     -- the step tells whether the walk is broken
-    pub standing : (w : List ℕ) → On w → ((step_at w ≡ None) × Broken g d w) ⊎ ((e : ℕ) × (step_at w ≡ Some e) × (Broken g d w → ⊥))
-    standing w on =
+    pub standing : (w : List ℕ) → 0 < length w → (d.Breaks (before w) → ⊥) → ((step_at w ≡ None) × Broken g d w) ⊎ ((e : ℕ) × (step_at w ≡ Some e) × (Broken g d w → ⊥))
+    standing w some un =
         ⊎_elim
-        (λ none. inl (none, rw (marks_split w on.some, Broken) (lawful.breaks (before w) _ (marks_fit g fit (take _ w)) (fit.marks _) on.unbroken none)))
-        (λ some. inr (some.0, some.1, (goes w some.0 on some.1).0))
+        (λ none. inl (none, rw (marks_split w some, Broken) (lawful.breaks (before w) _ (marks_fit g fit (take _ w)) (fit.marks _) un none)))
+        (λ live. inr (live.0, live.1, (goes w live.0 some un live.1).0))
         (cases_step (step_at w))
 
     -- a move leads to a position with the code that the step answered
@@ -147,7 +147,7 @@ module _ (g : Graph) (d : Rule) where
     on_grows w e k on step l =
         let x : ℕ = get_or (moves g (last w)) k 0 in
         let front = before_push w x in
-        let told = goes w e on step in
+        let told = goes w e on.some on.unbroken step in
         let code : code_before g d (onto g w k) ≡ e = ap d.code front ∙ told.1 in (
           record {
             some = omega (arith, length_push w x);
