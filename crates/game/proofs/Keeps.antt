@@ -49,7 +49,7 @@ module _ (g : Graph) (d : Rule) (t : Table) where
       (cases_Bool (g.house v))
 
   -- the plan that a table gives a side: the plan byte's move, or where it names none, the last one
-  abbrev table_plan : (side : Bool) → Plan g side
+  abbrev pub table_plan : (side : Bool) → Plan g side
   table_plan side = record {
     choose = λ w. min (byte_of w) (length (moves g (last w)) - 1);
     fit = λ w walk is. omega (arith, moves_some g (last w));

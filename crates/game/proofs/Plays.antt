@@ -11,12 +11,12 @@ use Rattle.game.proofs.Walks.{onto, walk_one, walk_grows, follows_grows, push_la
 
 module _ (g : Graph) where
   -- a walk of i + 1 places from v of which P holds
-  record Line (P : List ℕ → Type 0) (v i : ℕ) : Type 0 where
-    line : List ℕ
-    walk : Walk g line
-    from : first line ≡ v
-    long : length line ≡ suc i
-    holds : P line
+  pub record Line (P : List ℕ → Type 0) (v i : ℕ) : Type 0 where
+    pub line : List ℕ
+    pub walk : Walk g line
+    pub from : first line ≡ v
+    pub long : length line ≡ suc i
+    pub holds : P line
 
   -- where each walk of up to i places of which P holds goes on to one of which it holds
   draw : (P : List ℕ → Type 0) (v i : ℕ) → v < g.size → P (v ∷ [])
@@ -34,7 +34,7 @@ module _ (g : Graph) where
       }
 
   -- two plans, one of each side, together draw a walk of any length
-  both : (p : Plan g true) (q : Plan g false) (v i : ℕ) → v < g.size → Line (λ w. Follows g true p w × Follows g false q w) v i
+  pub both : (p : Plan g true) (q : Plan g false) (v i : ℕ) → v < g.size → Line (λ w. Follows g true p w × Follows g false q w) v i
   both p q v i l =
       draw _ v i l ((λ j h. absurd (omega arith)), (λ j h. absurd (omega arith))) (λ w walk low holds.
       ⊎_elim
@@ -52,10 +52,10 @@ module _ (g : Graph) where
 
 module _ (g : Graph) (d : Rule) (fit : Fit g) (lawful : Lawful d) where
   -- a walk that the guest's plan leaves, at a position to which the first m + 1 - length rounds give nothing
-  record Alive (q : Plan g false) (m : ℕ) (w : List ℕ) : Type 0 where
-    follows : Follows g false q w
-    on : On g d w
-    none : given g d (suc (m - length w)) (last w) (code_before g d w) ≡ 0
+  pub record Alive (q : Plan g false) (m : ℕ) (w : List ℕ) : Type 0 where
+    pub follows : Follows g false q w
+    pub on : On g d w
+    pub none : given g d (suc (m - length w)) (last w) (code_before g d w) ≡ 0
 
   alive_grows : (q : Plan g false) (m : ℕ) (w : List ℕ) → Walk g w → length w < m → Alive q m w → (k : ℕ) × (k < length (moves g (last w))) × Alive q m (onto g w k)
   alive_grows q m w walk low alive =

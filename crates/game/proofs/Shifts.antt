@@ -34,20 +34,20 @@ never_35 g d t begin w restart a x s is = grind (arith, s.0)
 
 module _ (g : Graph) (d : Rule) (t : Table) (begin : ℕ) where
   -- the shift s stands where the walk w does
-  record Held (s : State) (w : List ℕ) : Type 0 where
-    walk : Walk g w
-    from : first w ≡ begin
-    place : s.place ≡ last w
-    code : s.code ≡ code_before g d w
-    ended : s.ended ≡ says_broken (step_at g d w)
-    size : s.size ≡ g.size
-    codes : s.codes ≡ d.codes
-    start : s.start ≡ begin
-    first_code : s.first_code ≡ d.start
-    side : s.side ≡ drives_house g d t begin
-    on : On g d w
-    safe : place_count g d t begin ≡ 0 → count_of g d t w ≡ 0
-    chased : 0 < place_count g d t begin → Chased g d t (place_count g d t begin) w
+  pub record Held (s : State) (w : List ℕ) : Type 0 where
+    pub walk : Walk g w
+    pub from : first w ≡ begin
+    pub place : s.place ≡ last w
+    pub code : s.code ≡ code_before g d w
+    pub ended : s.ended ≡ says_broken (step_at g d w)
+    pub size : s.size ≡ g.size
+    pub codes : s.codes ≡ d.codes
+    pub start : s.start ≡ begin
+    pub first_code : s.first_code ≡ d.start
+    pub side : s.side ≡ drives_house g d t begin
+    pub on : On g d w
+    pub safe : place_count g d t begin ≡ 0 → count_of g d t w ≡ 0
+    pub chased : 0 < place_count g d t begin → Chased g d t (place_count g d t begin) w
 
   module _ (fit : Fit g) (lawful : Lawful d) (passed : Passed g d t) where
     held_start : begin < g.size → Held (opened g d t g.size d.codes begin) (begin ∷ [])
