@@ -26,9 +26,9 @@ total_same f h (suc n) each most i l =
     let below = total_same f h n (λ j m. each j (omega arith)) in
     grind (arith, each n (omega arith), rest, below)
 
-total_bound : (f : ℕ → ℕ) (n : ℕ) → ((i : ℕ) → f i ≤ 1) → total f n ≤ n
-total_bound f zero each = omega arith
-total_bound f (suc n) each = omega (arith, each n, total_bound f n each)
+total_bound : (f : ℕ → ℕ) (b n : ℕ) → ((i : ℕ) → f i ≤ b) → total f n ≤ n * b
+total_bound f b zero each = omega arith
+total_bound f b (suc n) each = omega (arith, each n, total_bound f b n each)
 
 module _ (g : Graph) (d : Rule) where
   -- 1 where round r has left a count at the position of number p
@@ -42,7 +42,7 @@ module _ (g : Graph) (d : Rule) where
   cell_grows r p = grind (arith, given_later g d r (suc r))
 
   tally_bound : (r : ℕ) → tally r ≤ positions g d
-  tally_bound r = total_bound (cell r) (positions g d) (λ p. omega arith)
+  tally_bound r = omega (arith, total_bound (cell r) 1 (positions g d) (λ p. omega arith))
 
   quiet_tally : (r : ℕ) → tally (suc r) ≤ tally r → Quiet g d r
   quiet_tally r h v c lv lc z =
