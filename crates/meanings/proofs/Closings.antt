@@ -12,7 +12,7 @@ use Rattle.meanings.proofs.Earliest.{HasOpen}
 -- ## The test and the quantifiers
 
 -- no mark up to the one at place l is smaller than it
-abbrev Least : List ℕ → ℕ → Type 0
+abbrev pub Least : List ℕ → ℕ → Type 0
 Least w l = (k : ℕ) → k ≤ l → get_or w l 0 ≤ get_or w k 0
 
 -- the mark at place l closes a window whose lowest mark before them is low

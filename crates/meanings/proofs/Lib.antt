@@ -1,4 +1,5 @@
 pub mod Queues
+pub mod Follows
 pub mod Earliest
 pub mod Closings
 pub mod Windows

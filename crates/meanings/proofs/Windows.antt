@@ -1,7 +1,7 @@
 -- The window duty is lawful.
 use Rattle.std.proofs.Common.{◌≡◌, ℕ, ◌+◌, ◌-◌, ◌/◌, ◌<◌, ◌≤◌, min, false, cond, ltb, List, [], ◌∷◌, ◌++◌, length, drop, Some, None, Option, sym, refl, ap, ◌∙◌, subst, arith, length-append}
 use Rattle.std.proofs.Math.ListN.{get_or-append}
-use Rattle.std.proofs.lemmas.Bool.{or_parts}
+use Rattle.std.proofs.lemmas.Bool.{or_parts, ltb-true, ltb-false}
 use Rattle.std.proofs.lemmas.Bool.Decides.{nat_tests}
 use Rattle.std.proofs.lemmas.Grind.{common_steps}
 use Rattle.std.proofs.lemmas.Nat.{mul-add-lt, div-mul-add, mod-mul-add}
@@ -11,6 +11,7 @@ use Rattle.meanings.specs.Open.{still_open}
 use Rattle.meanings.specs.Window.{WindowLimits, Breaks, closed_below, is_closed, lowest, code_at, code_of_open, code, codes, low_of, count_of, moved, step, window}
 use Rattle.meanings.proofs.Earliest.{is_open, in_list, long_open, new_open, after, grows}
 use Rattle.meanings.proofs.Closings.{breaks_open, open_breaks, window_snoc, keeps, together, lowest_le, lowest_snoc, lowest_odd}
+use Rattle.meanings.proofs.Follows.{Follows, follows_breaks, follows_on}
 
 -- ## Codes
 
@@ -33,7 +34,7 @@ count_back : (b : ℕ) (w : List ℕ) → length w < b → count_of b (code_of_o
 count_back b [] h = refl
 count_back b (x ∷ w) h = grind (arith, nat_tests, mod-mul-add ((lowest x w - 1) / 2) (b - 1) (length (x ∷ w) - 1))
 
-code_below : (b low k : ℕ) → low ≤ 15 → 1 ≤ k → k < b → code_at b low k < codes b
+pub code_below : (b low k : ℕ) → low ≤ 15 → 1 ≤ k → k < b → code_at b low k < codes b
 code_below b low k h some less = omega (arith, mul-add-lt ((low - 1) / 2) (b - 1) (k - 1) 8 (omega arith) (omega arith))
 
 open_below : (b : ℕ) (w : List ℕ) → Fair w → length w < b → code_of_open b w < codes b
@@ -85,6 +86,16 @@ module _ (b : ℕ) (limits : WindowLimits b) where
       ∙ moves_right b limits.0 w m small (is_open is_closed ms)
       ∙ ap (answer b) (sym (grows is_closed keeps together ms m))
 
+  follows : (ms : List ℕ) (m : ℕ) → Marks ms → m ≤ 15 → (Breaks b ms → ⊥) → Follows (window b) ms m
+  follows ms m fit small un =
+      let v : List ℕ = still_open is_closed (ms ++ m ∷ []) in
+      record {
+        test = ltb (length v) b;
+        steps = steps ms m fit small un;
+        whole = λ t broke. omega (arith, ltb-true (length v) b t, breaks_long ms m un broke);
+        broken = λ t. long_breaks (ms ++ m ∷ []) (ltb-false (length v) b t);
+      }
+
   longer : (ms ns : List ℕ) → Breaks b ms → Breaks b (ms ++ ns)
   longer ms ns (i, h, none) =
       let long = length-append ms ns in (
@@ -106,7 +117,7 @@ module _ (b : ℕ) (limits : WindowLimits b) where
     empty_unbroken = λ broke. omega (arith, broke.1);
     empty_code = refl;
     longer = λ ms ns fit broke. longer ms ns broke;
-    breaks = λ ms m fit small un is. long_breaks (ms ++ m ∷ []) (grind (arith, nat_tests, steps ms m fit small un, is));
-    goes_on = λ ms m c fit small un is. grind (arith, nat_tests, steps ms m fit small un, is, breaks_long ms m un);
+    breaks = λ ms m fit small un is. follows_breaks (window b) ms m (follows ms m fit small un) is;
+    goes_on = λ ms m c fit small un is. follows_on (window b) ms m c (follows ms m fit small un) is;
     settled = settled;
   }
