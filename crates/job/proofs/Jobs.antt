@@ -19,7 +19,7 @@ judged_joined n s l f fs h e = grind (arith, fields_joined f fs h)
 
 -- the lines after the map
 module _ (d : Duty) (m : Map) where
-  close_step : (n : ℕ) (k : Kind) (t : State) → ruled n (due_close d m) k ≡ next t → ⊥
+  pub close_step : (n : ℕ) (k : Kind) (t : State) → ruled n (due_close d m) k ≡ next t → ⊥
   close_step n k t e = grind arith
 
   close_sound : (n : ℕ) (rest : Lines) (j : Job) → reading (due_close d m) n rest ≡ job j → (rest ≡ done) × (j ≡ made_job d m)
