@@ -2,10 +2,11 @@
 use Rattle.std.proofs.Common.{◌≡◌, ℕ, suc, ◌<◌, Bool, cond, ◌||◌, List, [], ◌∷◌, length, get_or, map, sym, refl, ap, ◌∙◌, arith}
 use Rattle.std.specs.Prelude.{Some, None, Option}
 use Rattle.std.specs.List.{list_all, list_any, range_with_len}
+use Rattle.std.proofs.lemmas.Bool.Decides.{nat_tests}
 use Rattle.std.proofs.lemmas.List.{ext_get_or}
 use Rattle.std.proofs.lemmas.List.FromFn.{length-map-range_with_len, get_or-map-range_with_len}
 use Rattle.std.proofs.lemmas.List.Folds.{list_all-map}
-use Rattle.game.specs.Graph.{Graph, moves}
+use Rattle.game.specs.Graph.{Graph, moves, target}
 use Rattle.game.specs.Rounds.{counted, attracted}
 use Rattle.solver.specs.Rounds.{gains}
 
@@ -26,6 +27,10 @@ any_map p h (k ∷ ks) = ap (λ (b : Bool). p (h k) || b) (any_map p h ks)
 any_read : (p : ℕ → Bool) (xs : List ℕ) → list_any (λ k. p (get_or xs k 0)) (range_with_len 0 (length xs)) ≡ list_any p xs
 any_read p xs = sym (any_map p (λ k. get_or xs k 0) (range_with_len 0 (length xs))) ∙ ap (list_any p) (read_all xs)
 
+-- a move leads where the way of its number does
+pub move_target : (g : Graph) (v k : ℕ) → v < g.size → k < length (moves g v) → target g v k ≡ get_or (moves g v) k 0
+move_target g v k lv lk = grind (arith, nat_tests)
+
 -- a place is counted by its moves' numbers as by the places where they lead
 pub attracted_told : (g : Graph) (v : ℕ) (at : ℕ → ℕ) → attracted g v at
     ≡ cond (g.house v)
@@ -36,12 +41,12 @@ attracted_told g v at =
     let any = any_read (λ t. counted (at t)) (moves g v) in
     cc
 
-all_same : (f h : ℕ → Bool) (xs : List ℕ) → ((k : ℕ) → k < length xs → f (get_or xs k 0) ≡ h (get_or xs k 0))
+pub all_same : (f h : ℕ → Bool) (xs : List ℕ) → ((k : ℕ) → k < length xs → f (get_or xs k 0) ≡ h (get_or xs k 0))
     → list_all f xs ≡ list_all h xs
 all_same f h [] each = refl
 all_same f h (x ∷ xs) each = let a = each 0 (omega arith) in let b = all_same f h xs (λ k l. each (suc k) (omega arith)) in cc
 
-any_same : (f h : ℕ → Bool) (xs : List ℕ) → ((k : ℕ) → k < length xs → f (get_or xs k 0) ≡ h (get_or xs k 0))
+pub any_same : (f h : ℕ → Bool) (xs : List ℕ) → ((k : ℕ) → k < length xs → f (get_or xs k 0) ≡ h (get_or xs k 0))
     → list_any f xs ≡ list_any h xs
 any_same f h [] each = refl
 any_same f h (x ∷ xs) each = let a = each 0 (omega arith) in let b = any_same f h xs (λ k l. each (suc k) (omega arith)) in cc

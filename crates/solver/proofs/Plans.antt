@@ -5,7 +5,7 @@ use Rattle.std.proofs.lemmas.Bool.{both_ways}
 use Rattle.game.specs.Graph.{Graph, Fit, moves}
 use Rattle.game.specs.Rule.{Rule, Lawful}
 use Rattle.game.specs.Rounds.{positions}
-use Rattle.game.specs.Table.{entry, table, LowestZero, LowestLeast}
+use Rattle.game.specs.Table.{entry, table, LowestZero, LowestLeast, Planned}
 use Rattle.game.proofs.Moves.{moves_inside}
 use Rattle.game.proofs.Rounds.{small, live_test, born, house_false, guest_true, given_later}
 use Rattle.game.proofs.Ends.{stable}
@@ -14,7 +14,11 @@ use Rattle.solver.specs.Rounds.{Finished}
 use Rattle.solver.proofs.Searches.{first_none, first_some, smallest_none, smallest_some}
 use Rattle.solver.specs.Solve.{FitPlan}
 
-same_answer : (o : Option ℕ) (e f : ℕ) → o ≡ Some e → o ≡ Some f → e ≡ f
+-- the counts alone say which byte is asked for
+pub planned_by : (g : Graph) (d : Rule) (p q count : List ℕ) (v c b : ℕ) → Planned g d (table p count) v c b → Planned g d (table q count) v c b
+planned_by g d p q count v c b is = record { holds = is.holds; attacks = is.attacks; waits_house = is.waits_house; waits_guest = is.waits_guest }
+
+pub same_answer : (o : Option ℕ) (e f : ℕ) → o ≡ Some e → o ≡ Some f → e ≡ f
 same_answer o e f p q = cc
 
 module _ (g : Graph) (d : Rule) (fit : Fit g) (lawful : Lawful d) (count : List ℕ) (counts : Finished g d count) (v c e : ℕ)

@@ -11,12 +11,13 @@ use Rattle.game.proofs.Verdicts.{solved_verdict}
 use Rattle.solver.specs.Rounds.{Finished}
 use Rattle.solver.specs.Solve.{FitPlan, FitsPlan, Solves}
 use Rattle.solver.proofs.Round.{entry_in}
+use Rattle.solver.proofs.Plans.{planned_by}
 
 module _ (g : Graph) (d : Rule) (fit : Fit g) (lawful : Lawful d) where
   -- counts that agree on the map ask for the same plan bytes
-  planned_same : (plan count count' : List ℕ) → ((v c : ℕ) → v < g.size → c < d.codes → entry d.codes count' v c ≡ entry d.codes count v c)
-      → (v c b : ℕ) → v < g.size → c < d.codes → FitPlan g d count v c b → Planned g d (table plan count') v c b
-  planned_same plan count count' same v c b lv lc is = record {
+  planned_same : (count count' : List ℕ) → ((v c : ℕ) → v < g.size → c < d.codes → entry d.codes count' v c ≡ entry d.codes count v c)
+      → (v c b : ℕ) → v < g.size → c < d.codes → FitPlan g d count v c b → FitPlan g d count' v c b
+  planned_same count count' same v c b lv lc is = record {
     holds = λ e step house z.
         let low = is.holds e step house (sym (same v c lv lc) ∙ z) in
         (low.0, ahead e step b low.0 ∙ low.1, λ j lj. omega (arith, low.2 j lj, ahead e step j (omega (arith, low.0))));
@@ -32,7 +33,7 @@ module _ (g : Graph) (d : Rule) (fit : Fit g) (lawful : Lawful d) where
   }
     where
       ahead : (e : ℕ) → d.step c (g.mark v) ≡ Some e → (k : ℕ) → k < length (moves g v)
-          → move_count g d (table plan count') v e k ≡ move_count g d (table [] count) v e k
+          → move_count g d (table [] count') v e k ≡ move_count g d (table [] count) v e k
       ahead e step k lk = same _ e (moves_inside g fit v k lv lk) (lawful.settled c (g.mark v) e step).2
 
   pub solves : (most : ℕ) (plan count plan' count' : List ℕ) → most ≡ positions g d → Room g d plan count
@@ -59,5 +60,6 @@ module _ (g : Graph) (d : Rule) (fit : Fit g) (lawful : Lawful d) where
         counts = λ v c lv lc. front count' (drop most count) counts v c lv lc ∙ finished v c lv lc;
         plans = λ v c lv lc.
             subst (Planned g d (table (plan' ++ drop most plan) (count' ++ drop most count)) v c) (sym (front plan' (drop most plan) plans v c lv lc))
-            (planned_same (plan' ++ drop most plan) count' (count' ++ drop most count) (front count' (drop most count) counts) v c _ lv lc (fits v c lv lc));
+            (planned_by g d [] (plan' ++ drop most plan) (count' ++ drop most count) v c _
+            (planned_same count' (count' ++ drop most count) (front count' (drop most count) counts) v c _ lv lc (fits v c lv lc)));
       }
