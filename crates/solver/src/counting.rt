@@ -1,5 +1,5 @@
 // The counts, by rounds.
-ghost use Rattle.std.specs.Prelude.{◌≡◌, ◌+◌, ◌<◌, ◌≤◌, true, false, length};
+ghost use Rattle.std.specs.Prelude.{◌≡◌, ℕ, ◌+◌, ◌<◌, ◌≤◌, true, false, length, slice_index};
 ghost use Rattle.game.specs.Rounds.{positions, Quiet};
 ghost use Rattle.solver.specs.Rounds.{flag, settled, is_due, Counts, Finished};
 
@@ -62,6 +62,14 @@ fn count_round<M: Map, D: Duty>(
     flags.contains(&1)
 }
 
+// Takes the counts off all entries.
+fn clear(count: &mut [u16])
+    ensures none { (k : ℕ) → k < length count.old → slice_index count.new k ≡ 0 }
+    ensures long { length count.new ≡ length count.old }
+{
+    count.fill(0);
+}
+
 // The counts, by rounds up to the first that gives nothing. The loop counts rounds, and no index: each round writes
 // its number.
 #[tactic(auto, using(crate::proofs::Round::given_none))]
@@ -70,7 +78,7 @@ pub(crate) fn count_all<M: Map, D: Duty>(map: &M, duty: &D, plan: &mut [u8], cou
     requires counts { length count.old ≡ positions (M.graph map.now) (D.rule duty.now) }
     ensures { Finished (M.graph map.now) (D.rule duty.now) count.new }
 {
-    count.fill(0);
+    clear(count);
     for done in 0..position_count(map, duty) {
         if !count_round(map, duty, done, plan, count) {
             return;
