@@ -14,51 +14,51 @@ use itoa::{Buffer, Integer};
 // The bytes that a space has to have, so that every listing fits.
 pub const SPACE: usize = 4096;
 
-// A line with its end: the longest is `place,255,guest,65535`. Its pieces are pushed and not printed by `write!`, whose
-// contract lets it fail even where there is room.
-type Line = ArrayString<22>;
+// The bytes of the longest listing: 129 lines, the longest of which is `place,255,guest,65535` with its end.
+const LONGEST: usize = 2838;
 
-// A listing: at most 129 lines.
-type Text = ArrayString<SPACE>;
+// A listing. Its lines are pushed piece by piece and not printed by `write!`, whose contract lets it fail even where there is
+// room; and none is made apart, since it would then be copied.
+type Text = ArrayString<LONGEST>;
 
 // Appends a field that is a number: a comma, and the number in decimal.
-fn push_field<I: Integer>(line: &mut Line, n: I)
-    requires { array_string_len line.old + 1 + I.MAX_STR_LEN ≤ 22 }
-    ensures text { line.new.bytes ≡ line.old.bytes ++ 44 ∷ I.text n }
-    ensures most { array_string_len line.new ≤ array_string_len line.old + 1 + I.MAX_STR_LEN }
+fn push_field<I: Integer>(text: &mut Text, n: I)
+    requires { array_string_len text.old + 1 + I.MAX_STR_LEN ≤ 2838 }
+    ensures text { text.new.bytes ≡ text.old.bytes ++ 44 ∷ I.text n }
+    ensures most { array_string_len text.new ≤ array_string_len text.old + 1 + I.MAX_STR_LEN }
 {
-    line.push(',');
-    line.push_str(Buffer::new().format(n));
+    text.push(',');
+    text.push_str(Buffer::new().format(n));
 }
 
-// The first line.
-fn header_line(places: u8, codes: u8, houses: u8) -> Line
-    ensures { result.bytes ≡ ended (header_line places codes houses) }
+// Appends the first line.
+fn push_header(text: &mut Text, places: u8, codes: u8, houses: u8)
+    requires { array_string_len text.old + 22 ≤ 2838 }
+    ensures text { text.new.bytes ≡ text.old.bytes ++ ended (header_line places codes houses) }
+    ensures most { array_string_len text.new ≤ array_string_len text.old + 22 }
 {
-    let mut line = Line::new();
-    line.push_str("verdict");
-    push_field(&mut line, places);
-    push_field(&mut line, codes);
-    push_field(&mut line, houses);
-    line.push('\n');
-    line
+    text.push_str("verdict");
+    push_field(text, places);
+    push_field(text, codes);
+    push_field(text, houses);
+    text.push('\n');
 }
 
-// The line of a place with this count.
-fn place_line(v: u8, count: u16) -> Line
-    ensures { result.bytes ≡ ended (place_line v count) }
+// Appends the line of a place with this count.
+fn push_place(text: &mut Text, v: u8, count: u16)
+    requires { array_string_len text.old + 22 ≤ 2838 }
+    ensures text { text.new.bytes ≡ text.old.bytes ++ ended (place_line v count) }
+    ensures most { array_string_len text.new ≤ array_string_len text.old + 22 }
 {
-    let mut line = Line::new();
-    line.push_str("place");
-    push_field(&mut line, v);
+    text.push_str("place");
+    push_field(text, v);
     if count == 0 {
-        line.push_str(",house");
+        text.push_str(",house");
     } else {
-        line.push_str(",guest");
-        push_field(&mut line, count);
+        text.push_str(",guest");
+        push_field(text, count);
     }
-    line.push('\n');
-    line
+    text.push('\n');
 }
 
 // The counts of a game's table: one at least for each position. It is the crate's own, as the solver's Position is: a struct
@@ -93,16 +93,17 @@ impl<M: Map, D: Duty> Counts<'_, M, D> {
             .count() as u8
     }
 
-    // The listing. Each place tells its own number, so the loop is over the numbers.
+    // The listing, shorter than the space that is asked for. Each place tells its own number, so the loop is over the numbers.
     fn listing(&self) -> Text
-        ensures { result.bytes ≡ listing
+        ensures text { result.bytes ≡ listing
             (M.graph self.now.map.now) (D.rule self.now.duty.now) (table [] self.now.count.now) }
+        ensures most { array_string_len result ≤ 2838 }
     {
         let places = self.map.size();
         let mut text = Text::new();
-        text.push_str(&header_line(places, self.duty.codes(), self.houses()));
+        push_header(&mut text, places, self.duty.codes(), self.houses());
         for v in 0..places {
-            text.push_str(&place_line(v, self.of_place(v)));
+            push_place(&mut text, v, self.of_place(v));
         }
         text
     }

@@ -22,7 +22,7 @@ loop-v-preserved g c =
     let D = g.D.Duty.rule c.args.self.now.duty.now in
     let t = table [] c.args.self.now.count.now in
     let first = header_line G.size D.codes (house_places G D t G.size) in (
-      rw (c.push_str-in-loop-v.ensures.bytes, c.deref-in-loop-v.ensures.0, c.place_line.ensures, c.loop-v.invariant.0)
+      rw (c.push_place.ensures.text, c.loop-v.invariant.0)
           (line_more G D t first c.loop-v.v _ c.of_place.ensures),
       omega arith,
     )
