@@ -142,7 +142,9 @@ impl<'a, M: Map, D: Duty> Position<'a, M, D> {
         (0..self.moves()).find(|k| self.ahead(*k) == n)
     }
 
-    // The smallest count above 0 to which a move leads, at the same code.
+    // The smallest count above 0 to which a move leads, at the same code. Never inlined: the loop over a row would reckon at each
+    // place what only the guest's lost positions ask.
+    #[inline(never)]
     fn least(&self) -> Option<u16>
         ensures { result ≡ least (M.graph self.now.map.now) (D.rule self.now.duty.now)
             self.now.count.now self.now.place self.now.code }
