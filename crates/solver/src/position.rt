@@ -134,7 +134,9 @@ impl<'a, M: Map, D: Duty> Position<'a, M, D> {
         self.count() == 0 && self.gains()
     }
 
-    // The lowest move to a count of n, at the same code.
+    // The lowest move to a count of n, at the same code. Always inlined, and `least` too: a call of its own would take the position by
+    // its address, and then the compiler reads map and duty again at every entry of a table, after each that it writes.
+    #[inline(always)]
     fn lowest(&self, n: u16) -> Option<u8>
         ensures { result ≡ lowest (M.graph self.now.map.now) (D.rule self.now.duty.now)
             self.now.count.now self.now.place self.now.code n }
@@ -142,9 +144,8 @@ impl<'a, M: Map, D: Duty> Position<'a, M, D> {
         (0..self.moves()).find(|k| self.ahead(*k) == n)
     }
 
-    // The smallest count above 0 to which a move leads, at the same code. Never inlined: the loop over a row would reckon at each
-    // place what only the guest's lost positions ask.
-    #[inline(never)]
+    // The smallest count above 0 to which a move leads, at the same code.
+    #[inline(always)]
     fn least(&self) -> Option<u16>
         ensures { result ≡ least (M.graph self.now.map.now) (D.rule self.now.duty.now)
             self.now.count.now self.now.place self.now.code }
