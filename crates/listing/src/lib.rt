@@ -93,19 +93,19 @@ impl<M: Map, D: Duty> Counts<'_, M, D> {
             .count() as u8
     }
 
-    // The listing, shorter than the space that is asked for. Each place tells its own number, so the loop is over the numbers.
-    fn listing(&self) -> Text
-        ensures text { result.bytes ≡ listing
+    // Puts the listing into an empty text; it is shorter than the space that is asked for. Each place tells its own number, so the
+    // loop is over the numbers. The text is lent, since one that is answered is made and zeroed three times.
+    fn push_listing(&self, text: &mut Text)
+        requires { text.old.bytes ≡ [] }
+        ensures text { text.new.bytes ≡ listing
             (M.graph self.now.map.now) (D.rule self.now.duty.now) (table [] self.now.count.now) }
-        ensures most { array_string_len result ≤ 2838 }
+        ensures most { array_string_len text.new ≤ 2838 }
     {
         let places = self.map.size();
-        let mut text = Text::new();
-        push_header(&mut text, places, self.duty.codes(), self.houses());
+        push_header(text, places, self.duty.codes(), self.houses());
         for v in 0..places {
-            push_place(&mut text, v, self.of_place(v));
+            push_place(text, v, self.of_place(v));
         }
-        text
     }
 }
 
@@ -127,7 +127,8 @@ pub fn write_listing<M: Map, D: Duty>(
     if space.len() < SPACE {
         return Err(Refusal::Space);
     }
-    let text = Counts { map, duty, count }.listing();
+    let mut text = Text::new();
+    Counts { map, duty, count }.push_listing(&mut text);
     let long = text.len();
     space[..long].copy_from_slice(text.as_bytes());
     Ok(long)

@@ -3,7 +3,7 @@ use Rattle.std.proofs.Common.{◌≡◌, ◌+◌, ◌*◌, ◌≤◌, [], ◌∷
 use Rattle.game.specs.Table.{table}
 use Rattle.arrayvec.specs.ArrayString.{array_string_len}
 use Rattle.listing.specs.Listing.{text_of, header_line, house_places, place_lines}
-use Rattle.listing.proofs.Counts.listing.Given as goal
+use Rattle.listing.proofs.Counts.push_listing.Given as goal
 
 abbrev pub invariant-loop-v : goal.invariant-loop-v
 invariant-loop-v g l =

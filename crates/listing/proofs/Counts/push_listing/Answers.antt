@@ -6,7 +6,7 @@ use Rattle.game.specs.Graph.{Graph}
 use Rattle.game.specs.Rule.{Rule}
 use Rattle.game.specs.Table.{Table, table, place_count}
 use Rattle.listing.specs.Listing.{ended, text_of, header_line, house_places, place_line, place_lines}
-use Rattle.listing.proofs.Counts.listing.Goals as goal
+use Rattle.listing.proofs.Counts.push_listing.Goals as goal
 
 line_more : (g : Graph) (d : Rule) (t : Table) (first : List ℕ) (v k : ℕ) → k ≡ place_count g d t v
     → text_of (first ∷ place_lines g d t v) ++ ended (place_line v k) ≡ text_of (first ∷ place_lines g d t (v + 1))
